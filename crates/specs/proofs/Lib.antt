@@ -1,0 +1,14 @@
+pub mod TableL
+pub mod Sound
+pub mod Words
+pub mod Same
+pub mod Inference
+pub mod Reading
+pub mod Accepted
+pub mod PlainFacts
+pub mod Erasure
+pub mod Ends
+pub mod Keeping
+pub mod Preservation
+pub mod Compare
+pub mod Demand3

@@ -1,0 +1,223 @@
+-- Type preservation for the caching steps (001, theorem 4.3): what is due at a running expression of a type is of that type, and so is
+-- what a run keeps and ends with. So no step of an accepted question meets a value of another type than its rule is for.
+use mathlib.Core.Bool.{Bool, true, false, _||_}
+use mathlib.Core.Bool as Bool
+use mathlib.Core.Option.{Option, none, some}
+use mathlib.Core.List.{List, [], _∷_, _++_}
+use mathlib.Core.Path.{_≡_, refl, sym, _∙_, ap, subst}
+use Prim.Native.Nat.{ℕ, zero, suc, _<_}
+use lib.Dec.{eqb, ltb, leb}
+use lib.ListN.{length}
+use native.Mathlib.Omega.{arith}
+use borrow.Author.Tests.{ltb-true, lt-ltb}
+use Rattle.specs.specs.Values.{Base, nodeT, Ty, base, _⇒_, Value, unit, bool, int, node, function, holding, Function, le, equalInt, equalNode, negation, add, subtract, Holding, leOf, equalIntOf, equalNodeOf, addTo, subtractFrom, functionType, holdingType, typeOf, null, truth, nodeOf, applyFunction, applyHolding, apply, isWord, ofWord, toWord}
+use Rattle.specs.specs.Expressions.{Expr, Scope}
+use Rattle.specs.specs.Types.{Attribute, attributeAt}
+use Rattle.specs.specs.Terms.{Occurrence, val, cond, app, attr, form, put}
+use Rattle.specs.specs.Caching.{Entry, sameOccurrence, kept, isKept, write, Running, Counted, AppApp, Reason, null-node, spent, depth, Due, finished, counts, writes, halts, duePart, count, keptOr, attrApp, due, State, with-value, by, Ended, dueAt, run}
+use Rattle.specs.proofs.Sound.{IsA, ValueIn, ExprIn, literal∈, if∈, application∈, attribute∈, this∈, parameter∈, OccurrenceIn, EntryIn, All, all-none, all-cons, TermIn, val∈, cond∈, app∈, attr∈, form∈, ContextIn}
+use Rattle.specs.proofs.Words.{held-in, bool-in}
+use Rattle.specs.proofs.Same.{same-occurrence}
+
+-- ---- Values
+
+result-of : {B C : Base} {T U : Ty} → (B ⇒ T) ≡ (C ⇒ U) → T ≡ U
+result-of e = cc
+
+no-function {ℓ} : {A : Type ℓ} {B C : Base} {T : Ty} → base B ≡ (C ⇒ T) → A
+no-function e = absurd (let z : _≡_ {A = ℕ} 0 1 = cc in omega arith)
+
+module _ (nodes : ℕ) {B : Base} {T : Ty} (x : Value) where
+  function-in : (f : Function) → functionType f ≡ (B ⇒ T) → ValueIn nodes T (applyFunction f x)
+  unfolding functionType holdingType typeOf applyFunction
+  function-in le e = rw (← result-of e) refl
+  function-in equalInt e = rw (← result-of e) refl
+  function-in equalNode e = rw (← result-of e) refl
+  function-in negation e = rw (← result-of e) (bool-in nodes _)
+  function-in add e = rw (← result-of e) refl
+  function-in subtract e = rw (← result-of e) refl
+
+  holding-in : (h : Holding) → holdingType h ≡ (B ⇒ T) → ValueIn nodes T (applyHolding h x)
+  unfolding holdingType applyHolding
+  holding-in (leOf y) e = rw (← result-of e) (bool-in nodes _)
+  holding-in (equalIntOf y) e = rw (← result-of e) (bool-in nodes _)
+  holding-in (equalNodeOf y) e = rw (← result-of e) (bool-in nodes _)
+  holding-in (addTo y) e = rw (← result-of e) (held-in nodes _)
+  holding-in (subtractFrom y) e = rw (← result-of e) (held-in nodes _)
+
+pub apply-in : (nodes : ℕ) (B : Base) (T : Ty) (f x : Value) → ValueIn nodes (B ⇒ T) f → IsA nodes B x → ValueIn nodes T (apply f x)
+unfolding typeOf apply
+apply-in nodes B T unit x e h = no-function e
+apply-in nodes B T (bool b) x e h = no-function e
+apply-in nodes B T (int z) x e h = no-function e
+apply-in nodes B T (node n) x e h = no-function e
+apply-in nodes B T (function f) x e h = function-in nodes x f e
+apply-in nodes B T (holding f) x e h = holding-in nodes x f e
+
+node-in : (nodes n : ℕ) → n < nodes → IsA nodes nodeT (node n)
+unfolding isWord ofWord toWord
+node-in nodes n h = record { is-word = rw (lt-ltb n nodes h) refl; round-trip = refl }
+
+-- ---- Expressions
+
+pub put-in : {sc : Scope} {sig : List Attribute} {p : Base} {e : Expr} {T : Ty} (n : ℕ) (v : Value)
+    → (sc .has-this ≡ true → n < sc .nodes) → (sc .has-parameter ≡ true → IsA (sc .nodes) p v)
+    → ExprIn sc sig p e T → TermIn (sc .nodes) sig (put n v e) T
+unfolding put
+put-in n v hn hv (literal∈ w) = val∈ w
+put-in n v hn hv (if∈ c t e) = cond∈ (put-in n v hn hv c) (put-in n v hn hv t) (put-in n v hn hv e)
+put-in n v hn hv (application∈ f x) = app∈ (put-in n v hn hv f) (put-in n v hn hv x)
+put-in n v hn hv (attribute∈ a m x) = attr∈ a (put-in n v hn hv m) (put-in n v hn hv x)
+put-in {sc} n v hn hv (this∈ e) = val∈ (node-in (sc .nodes) n (hn e))
+put-in n v hn hv (parameter∈ e) = val∈ (hv e)
+
+-- ---- What is kept
+
+pub all-append : {A : Type 0} {P : A → Type 0} {l m : List A} → All P l → All P m → All P (l ++ m)
+all-append all-none n = n
+all-append (all-cons h t) n = all-cons h (all-append t n)
+
+-- A kept value is of its attribute's type, since its entry is one of that attribute.
+pub kept-in : {nodes : ℕ} {sig : List Attribute} {s : List Entry} (o : Occurrence) {v : Value} → All (EntryIn nodes sig) s → kept s o ≡ some v
+    → IsA nodes (attributeAt sig (o .attribute) .result) v
+unfolding kept
+kept-in o all-none q = absurd (let z : _≡_ {A = ℕ} 0 1 = cc in omega arith)
+kept-in {nodes} {sig} o {v} (all-cons {x = e} {l = l} h t) q = go (sameOccurrence (e .occurrence) o) refl q (λ k. kept-in o t k)
+  where
+    go : (b : Bool) → sameOccurrence (e .occurrence) o ≡ b → Bool.cond b (some (e .value)) (kept l o) ≡ some v
+        → (kept l o ≡ some v → IsA nodes (attributeAt sig (o .attribute) .result) v) → IsA nodes (attributeAt sig (o .attribute) .result) v
+    go true same q rest =
+        let value : e .value ≡ v = cc in
+        rw (ap (λ p. p .attribute) (same-occurrence (e .occurrence) o same), value) at (h .value-in)
+    go false same q rest = rest q
+
+-- both sides of a test
+pub either : {A : Type 0} (P : A → Type 0) (b : Bool) {x y : A} → (b ≡ true → P x) → (b ≡ false → P y) → P (Bool.cond b x y)
+either P true h k = h refl
+either P false h k = k refl
+
+write-in : {P : Entry → Type 0} (capacity : ℕ) {s : List Entry} {e : Entry} → All P s → P e → All P (write capacity s e)
+unfolding write
+write-in {P} capacity {s} {e} h n =
+    either (All P) (isKept (kept s (e .occurrence)) || leb capacity (length s)) (λ _. h) (λ _. all-append h (all-cons n all-none))
+
+-- ---- What is due
+
+abbrev pub DueIn : ℕ → List Attribute → Ty → Due → Type 0
+DueIn nodes sig T (finished v) = ValueIn nodes T v
+DueIn nodes sig T (counts r t) = TermIn nodes sig t T
+DueIn nodes sig T (writes e t) = EntryIn nodes sig e × TermIn nodes sig t T
+DueIn nodes sig T (halts r) = Unit {0}
+
+-- a Node value that is not null is declared
+declared : {nodes : ℕ} {v : Value} → IsA nodes nodeT v → eqb (nodeOf v) null ≡ false → nodeOf v < nodes
+unfolding isWord ofWord nodeOf
+declared {nodes} {v} h q = ltb-true _ _ (left (ltb (nodeOf v) nodes) (rw (ap nodeOf (h .round-trip)) at (h .is-word)) q)
+  where
+    left : (a : Bool) {b : Bool} → (a || b) ≡ true → b ≡ false → a ≡ true
+    left true e f = refl
+    left false e f = sym f ∙ e
+
+module _ (nodes : ℕ) (sig : List Attribute) where
+  part-in : {S T : Ty} (inside : Running → Running) (after : Value → Due) (d : Due) → DueIn nodes sig S d
+      → ((t : Running) → TermIn nodes sig t S → TermIn nodes sig (inside t) T) → ((v : Value) → ValueIn nodes S v → DueIn nodes sig T (after v))
+      → DueIn nodes sig T (duePart inside after d)
+  unfolding duePart
+  part-in inside after (finished v) h f g = g v h
+  part-in inside after (counts r t) h f g = f t h
+  part-in inside after (writes e t) h f g = (h .0, f t (h .1))
+  part-in inside after (halts r) h f g = tt
+
+  count-in : {T : Ty} {t : Running} (b : Bool) (r : Counted) → TermIn nodes sig t T → DueIn nodes sig T (count b r t)
+  unfolding count
+  count-in {T} {t} b r h = either (DueIn nodes sig T) b {x = counts r t} {y = halts spent} (λ _. h) (λ _. tt)
+
+  module _ (context : ℕ → ℕ → Expr) (c : ContextIn nodes sig context) (s : List Entry) (all : All (EntryIn nodes sig) s) (b : Bool) where
+    -- what AttrApp puts into a form, a kept value or σ
+    keptOr-in : (o : Occurrence) → OccurrenceIn nodes sig o → (k : Option Value) → kept s o ≡ k
+        → TermIn nodes sig (keptOr k (put (o .node) (o .parameter) (context (o .node) (o .attribute)))) (base (attributeAt sig (o .attribute) .result))
+    unfolding keptOr
+    keptOr-in o h none e =
+        rw (c .same-nodes) at
+        (put-in (o .node) (o .parameter) (λ _. rw (c .same-nodes) (h .node-declared)) (λ _. rw (c .same-nodes) (h .parameter-in))
+        (c .defines (o .node) (o .attribute) (h .node-declared) (h .attribute-declared)))
+    keptOr-in o h (some v) e = val∈ (kept-in o all e)
+
+    attrApp-in : (os : List Occurrence) (v : Value) (a : ℕ) (x : Value) → a < length sig → IsA nodes nodeT v
+        → IsA nodes (attributeAt sig a .parameter-type) x
+        → DueIn nodes sig (base (attributeAt sig a .result)) (attrApp context s b os record { node = nodeOf v; attribute = a; parameter = x })
+    unfolding attrApp
+    attrApp-in os v a x ha hv hx =
+        either D (eqb (nodeOf v) null) {x = halts null-node} (λ _. tt)
+        (λ declared. either D b {y = halts spent}
+        (λ _. either D (leb 64 (length os)) {x = halts depth} (λ _. tt)
+        (λ _. form∈ (is-in declared) (keptOr-in _ (is-in declared) _ refl)))
+        (λ _. tt))
+      where
+        D : Due → Type 0
+        D d = DueIn nodes sig (base (attributeAt sig a .result)) d
+
+        is-in : eqb (nodeOf v) null ≡ false → OccurrenceIn nodes sig record { node = nodeOf v; attribute = a; parameter = x }
+        is-in q = record { node-declared = declared hv q; attribute-declared = ha; parameter-in = hx }
+
+    pub due-in : (os : List Occurrence) (t : Running) (T : Ty) → TermIn nodes sig t T → DueIn nodes sig T (due context s b os t)
+    unfolding due
+    due-in os _ T (val∈ h) = h
+    due-in os _ T (cond∈ {c = c} {t = t} {e = e} hc ht he) =
+        part-in _ _ (due context s b os c) (due-in os _ _ hc) (λ _ h. cond∈ h ht he)
+        (λ v h. count-in b _ (either (λ u. TermIn nodes sig u T) (truth v) (λ _. ht) (λ _. he)))
+    due-in os _ T (app∈ {f = f} {x = x} {B = B} hf hx) =
+        part-in _ _ (due context s b os f) (due-in os _ _ hf) (λ _ h. app∈ h hx)
+        (λ v hv. part-in _ _ (due context s b os x) (due-in os _ _ hx) (λ _ h. app∈ (val∈ hv) h)
+        (λ w hw. count-in b AppApp (val∈ (apply-in nodes B T v w hv hw))))
+    due-in os _ _ (attr∈ {n = n} {x = x} {a = a} ha hn hx) =
+        part-in _ _ (due context s b os n) (due-in os _ _ hn) (λ _ h. attr∈ ha h hx)
+        (λ v hv. part-in _ _ (due context s b os x) (due-in os _ _ hx) (λ _ h. attr∈ ha (val∈ hv) h)
+        (λ w hw. attrApp-in os v a w ha hv hw))
+    due-in os _ _ (form∈ {o = o} {e = e} ho he) =
+        part-in _ _ (due context s b (o ∷ os) e) (due-in (o ∷ os) _ _ he) (λ _ h. form∈ ho h)
+        (λ v hv. (record { occurrence-in = ho; value-in = hv }, val∈ hv))
+
+-- ---- The run
+
+module _ (context : ℕ → ℕ → Expr) (capacity budget : ℕ) where
+  -- A run of one more step goes by what is due.
+  pub run-case : (P : Ended → Type 0) (k : ℕ) (st : State)
+      → ((v : Value) → dueAt context capacity budget st ≡ finished v → P record { ending = with-value v; entries = st .entries; steps = st .steps })
+      → ((r : Counted) (t : Running) → dueAt context capacity budget st ≡ counts r t
+      → P (run context capacity budget k record { term = t; entries = st .entries; steps = suc (st .steps) }))
+      → ((e : Entry) (t : Running) → dueAt context capacity budget st ≡ writes e t
+      → P (run context capacity budget k record { term = t; entries = write capacity (st .entries) e; steps = st .steps }))
+      → ((r : Reason) → dueAt context capacity budget st ≡ halts r → P record { ending = by r; entries = st .entries; steps = st .steps })
+      → P (run context capacity budget (suc k) st)
+  unfolding run
+  run-case P k st f g h i = go (dueAt context capacity budget st) refl
+    where
+      go : (d : Due) → dueAt context capacity budget st ≡ d → P (run context capacity budget (suc k) st)
+      go (finished v) e = rw (e, run) (f v e)
+      go (counts r t) e = rw (e, run) (g r t e)
+      go (writes w t) e = rw (e, run) (h w t e)
+      go (halts r) e = rw (e, run) (i r e)
+
+pub record EndedIn (nodes : ℕ) (sig : List Attribute) (T : Ty) (end : Ended) : Type 0 where
+  pub entries-in : All (EntryIn nodes sig) (end .entries)
+  pub value-in : (v : Value) → end .ending ≡ with-value v → ValueIn nodes T v
+
+module _ (nodes : ℕ) (sig : List Attribute) (context : ℕ → ℕ → Expr) (c : ContextIn nodes sig context) (capacity budget : ℕ) (T : Ty) where
+  stopped-in : (r : Reason) (s : List Entry) (n : ℕ) → All (EntryIn nodes sig) s
+      → EndedIn nodes sig T record { ending = by r; entries = s; steps = n }
+  stopped-in r s n h = record { entries-in = h; value-in = λ v e. absurd (let z : _≡_ {A = ℕ} 0 1 = cc in omega arith) }
+
+  pub run-in : (k : ℕ) (st : State) → All (EntryIn nodes sig) (st .entries) → TermIn nodes sig (st .term) T
+      → EndedIn nodes sig T (run context capacity budget k st)
+  unfolding run dueAt
+  run-in zero st hs ht = stopped-in spent (st .entries) (st .steps) hs
+  run-in (suc k) st hs ht =
+      run-case context capacity budget (EndedIn nodes sig T) k st
+      (λ v e. record { entries-in = hs; value-in = λ w q. let same : v ≡ w = cc in subst (ValueIn nodes T) same (is-due e) })
+      (λ r t e. run-in k _ hs (is-due e))
+      (λ w t e. run-in k _ (write-in capacity hs (is-due e .0)) (is-due e .1))
+      (λ r e. stopped-in r (st .entries) (st .steps) hs)
+    where
+      is-due : {d : Due} → dueAt context capacity budget st ≡ d → DueIn nodes sig T d
+      is-due e = subst (DueIn nodes sig T) e (due-in nodes sig context c (st .entries) hs (ltb (st .steps) budget) [] (st .term) T ht)

@@ -1,0 +1,62 @@
+-- Values, expressions and running expressions that are of their type and within the sheet's declarations: what an accepted sheet
+-- and an accepted question are made of, and what the steps preserve (001, theorem 4.3).
+use mathlib.Core.Bool.{true}
+use mathlib.Core.List.{List, [], _∷_}
+use mathlib.Core.Path.{_≡_}
+use Prim.Native.Nat.{ℕ, _<_}
+use lib.ListN.{length}
+use Rattle.specs.specs.Values.{Base, boolT, nodeT, Ty, base, _⇒_, Value, typeOf, isWord, ofWord, toWord}
+use Rattle.specs.specs.Expressions.{Expr, literal, if, application, attribute, this, parameter, Scope}
+use Rattle.specs.specs.Types.{Attribute, attributeAt}
+use Rattle.specs.specs.Terms.{Occurrence, val, cond, app, attr, form}
+use Rattle.specs.specs.Caching.{Running, Entry}
+
+-- A value of the base type B on a sheet of so many nodes: its four-byte form is one of B's, and holds it.
+pub record IsA (nodes : ℕ) (B : Base) (v : Value) : Type 0 where
+  pub is-word : isWord nodes B (toWord v) ≡ true
+  pub round-trip : ofWord B (toWord v) ≡ v
+
+-- A value of a type, base or function.
+abbrev pub ValueIn : ℕ → Ty → Value → Type 0
+ValueIn nodes (base B) v = IsA nodes B v
+ValueIn nodes (B ⇒ T) v = typeOf v ≡ (B ⇒ T)
+
+-- A written expression: figures 5 and 8 with each literal a value on this sheet, and 0x30 and 0x31 only where the scope has them.
+pub data ExprIn (sc : Scope) (sig : List Attribute) (p : Base) : Expr → Ty → Type 0 where
+  literal∈ : {v : Value} {T : Ty} → ValueIn (sc .nodes) T v → ExprIn sc sig p (literal v) T
+  if∈ : {c t e : Expr} {T : Ty} → ExprIn sc sig p c (base boolT) → ExprIn sc sig p t T → ExprIn sc sig p e T → ExprIn sc sig p (if c t e) T
+  application∈ : {f x : Expr} {B : Base} {T : Ty} → ExprIn sc sig p f (B ⇒ T) → ExprIn sc sig p x (base B) → ExprIn sc sig p (application f x) T
+  attribute∈ : {n x : Expr} {a : ℕ} → a < length sig → ExprIn sc sig p n (base nodeT) → ExprIn sc sig p x (base (attributeAt sig a .parameter-type))
+      → ExprIn sc sig p (attribute n a x) (base (attributeAt sig a .result))
+  this∈ : sc .has-this ≡ true → ExprIn sc sig p this (base nodeT)
+  parameter∈ : sc .has-parameter ≡ true → ExprIn sc sig p parameter (base p)
+
+-- An occurrence of a declared node and attribute with a parameter of the attribute's type, and an entry that keeps a value of its type.
+pub record OccurrenceIn (nodes : ℕ) (sig : List Attribute) (o : Occurrence) : Type 0 where
+  pub node-declared : o .node < nodes
+  pub attribute-declared : o .attribute < length sig
+  pub parameter-in : IsA nodes (attributeAt sig (o .attribute) .parameter-type) (o .parameter)
+
+pub record EntryIn (nodes : ℕ) (sig : List Attribute) (e : Entry) : Type 0 where
+  pub occurrence-in : OccurrenceIn nodes sig (e .occurrence)
+  pub value-in : IsA nodes (attributeAt sig (e .occurrence .attribute) .result) (e .value)
+
+pub data All {A : Type 0} (P : A → Type 0) : List A → Type 0 where
+  all-none : All P []
+  all-cons : {x : A} {l : List A} → P x → All P l → All P (x ∷ l)
+
+-- A running expression (001, figures 5, 8 and 10).
+pub data TermIn (nodes : ℕ) (sig : List Attribute) : Running → Ty → Type 0 where
+  val∈ : {v : Value} {T : Ty} → ValueIn nodes T v → TermIn nodes sig (val v) T
+  cond∈ : {c t e : Running} {T : Ty} → TermIn nodes sig c (base boolT) → TermIn nodes sig t T → TermIn nodes sig e T → TermIn nodes sig (cond c t e) T
+  app∈ : {f x : Running} {B : Base} {T : Ty} → TermIn nodes sig f (B ⇒ T) → TermIn nodes sig x (base B) → TermIn nodes sig (app f x) T
+  attr∈ : {n x : Running} {a : ℕ} → a < length sig → TermIn nodes sig n (base nodeT) → TermIn nodes sig x (base (attributeAt sig a .parameter-type))
+      → TermIn nodes sig (attr n a x) (base (attributeAt sig a .result))
+  form∈ : {o : Occurrence} {e : Running} → OccurrenceIn nodes sig o → TermIn nodes sig e (base (attributeAt sig (o .attribute) .result))
+      → TermIn nodes sig (form o e) (base (attributeAt sig (o .attribute) .result))
+
+-- A context (001, "a correctly-typed context"): σ of each declared pair has the attribute's type.
+pub record ContextIn (nodes : ℕ) (sig : List Attribute) (context : ℕ → ℕ → Expr) : Type 0 where
+  pub scope : Scope
+  pub same-nodes : scope .nodes ≡ nodes
+  pub defines : (n a : ℕ) → n < nodes → a < length sig → ExprIn scope sig (attributeAt sig a .parameter-type) (context n a) (base (attributeAt sig a .result))

@@ -1,0 +1,97 @@
+-- A question call on bytes (document 01, "Stops by origin" and "Contracts").
+use mathlib.Core.Bool.{Bool, true, false, cond}
+use mathlib.Core.Option.{Option, none, some}
+use mathlib.Core.List.{List, [], _∷_}
+use Prim.Native.Nat.{ℕ, zero, suc, _+_, _*_}
+use lib.Dec.{leb}
+use lib.ListN.{length}
+use lib.IntN.{ℤ, pos}
+use Rattle.specs.specs.Values.{Base, unitT, Ty, base, _⇒_, Value, unit, typeCode, decimal}
+use Rattle.specs.specs.Expressions.{Expr, Whole, no-expression, expression, readWhole}
+use Rattle.specs.specs.Types.{infer}
+use Rattle.specs.specs.Sheet.{Sheet, Checked, refused, accepted, checkSheet, questionScope, context}
+use Rattle.specs.specs.Terms.{Term, put}
+use Rattle.specs.specs.Caching.{Entry, Running, Reason, null-node, spent, depth, Ending, with-value, by, State, Ended, run}
+use Rattle.specs.specs.Store.{capacity, checkStore, leftStore}
+
+-- "An answer has number (0 for a value), place, type, value, steps, kept."
+pub record Answer : Type 0 where
+  pub number : ℕ
+  pub place : ℕ
+  pub type : ℕ
+  pub value : ℤ
+  pub steps : ℕ
+  pub kept : ℕ
+
+-- What a call brings: its answer and every byte of the store.
+pub record Outcome : Type 0 where
+  pub answer : Answer
+  pub store : List ℕ
+
+-- "Under 1 to 13 steps are 0 and kept and store are as lent."
+unfoldable pub refusal : List ℕ → ℕ → ℕ → ℕ → Outcome
+refusal store k number place =
+    record {
+      answer = record { number = number; place = place; type = 0; value = pos 0; steps = 0; kept = k };
+      store = store;
+    }
+
+-- "12 question not of its form. 13 question not of base type."
+unfoldable pub ofBaseType : Option Ty → Expr → Checked Expr
+ofBaseType none e = refused 13 0
+ofBaseType (some (base B)) e = accepted e
+ofBaseType (some (B ⇒ T)) e = refused 13 0
+
+unfoldable pub checkType : Sheet → Whole → Checked Expr
+checkType s no-expression = refused 12 0
+checkType s (expression e) = ofBaseType (infer (s .attributes) unitT e) e
+
+unfoldable pub checkQuestion : Sheet → List ℕ → Checked Expr
+checkQuestion s question = checkType s (readWhole (questionScope s) question)
+
+-- The question as it runs. It has neither 0x30 nor 0x31, so what is put for them is never used.
+unfoldable pub asked : {F : Type 0} → Expr → Term F
+asked e = put 0 unit e
+
+unfoldable pub reasonNumber : Reason → ℕ
+reasonNumber null-node = 14
+reasonNumber spent = 15
+reasonNumber depth = 16
+
+-- "Under any stop type and value are 0."
+unfoldable pub endedAnswer : Ending → ℕ → ℕ → Answer
+endedAnswer (with-value v) steps k =
+    record { number = 0; place = 0; type = typeCode v; value = decimal v; steps = steps; kept = k }
+endedAnswer (by reason) steps k =
+    record { number = reasonNumber reason; place = 0; type = 0; value = pos 0; steps = steps; kept = k }
+
+unfoldable pub outcome : List ℕ → ℕ → Ended → Outcome
+outcome store k end =
+    record {
+      answer = endedAnswer (end .ending) (end .steps) (length (end .entries));
+      store = leftStore store k (end .entries);
+    }
+
+unfoldable pub runQuestion : Sheet → ℕ → ℕ → List Entry → Expr → Ended
+runQuestion s capacity budget entries e =
+    run (context s) capacity budget (suc (2 * budget)) record { term = asked e; entries = entries; steps = 0 }
+
+-- "Order: 1, then commands .., then 8 to 13."
+unfoldable pub afterQuestion : Sheet → List ℕ → ℕ → ℕ → List Entry → Checked Expr → Outcome
+afterQuestion s store k budget entries (refused number place) = refusal store k number place
+afterQuestion s store k budget entries (accepted e) = outcome store k (runQuestion s (capacity store) budget entries e)
+
+unfoldable pub afterStore : Sheet → List ℕ → ℕ → List ℕ → ℕ → Checked (List Entry) → Outcome
+afterStore s store k question budget (refused number place) = refusal store k number place
+afterStore s store k question budget (accepted entries) =
+    cond (leb budget 1000000)
+    (afterQuestion s store k budget entries (checkQuestion s question))
+    (refusal store k 11 0)
+
+unfoldable pub afterSheet : List ℕ → ℕ → List ℕ → ℕ → Checked Sheet → Outcome
+afterSheet store k question budget (refused number place) = refusal store k number place
+afterSheet store k question budget (accepted s) = afterStore s store k question budget (checkStore s store k)
+
+-- The call: the sheet, the store with its kept number, the question and the budget.
+unfoldable pub ask : List ℕ → List ℕ → ℕ → List ℕ → ℕ → Outcome
+ask sheet store k question budget = afterSheet store k question budget (checkSheet sheet)

@@ -1,0 +1,12 @@
+pub mod Values
+pub mod Expressions
+pub mod Types
+pub mod Sheet
+pub mod Terms
+pub mod Plain
+pub mod Caching
+pub mod Store
+pub mod Ask
+pub mod Calls
+pub mod Demand3
+pub mod TableL
