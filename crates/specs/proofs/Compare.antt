@@ -17,39 +17,11 @@ use Rattle.specs.specs.Expressions.{Expr}
 use Rattle.specs.specs.Terms.{Occurrence, val, cond, app, attr, form, put}
 use Rattle.specs.specs.Plain.{Plain, PlainStep, is-value, steps-to, on-null, plainStep, plainAt}
 use Rattle.specs.specs.Caching.{Entry, Running, kept, keptOr, write, Due, finished, counts, writes, halts, Counted, AppApp, AttrApp, condRule, Reason, null-node, spent, depth, duePart, count, attrApp, due, State, Ending, with-value, by, Ended, dueAt, run}
-use Rattle.specs.proofs.PlainFacts.{stepped}
 use Rattle.specs.proofs.Erasure.{erase, Right, Faithful, Seen, comes-on, step-first}
 use Rattle.specs.proofs.Ends.{Runs, ends-value, ends-by, goes-counted, goes-writing, spent-used}
 use Rattle.specs.proofs.Keeping.{seen-at, right-write}
 
 module _ (context : ℕ → ℕ → Expr) where
-  -- ---- Where plain Saiga has ended
-
-  -- no step is due
-  abbrev pub Final : Plain → Type 0
-  Final t = (t′ : Plain) → plainStep context t ≡ steps-to t′ → ⊥
-
-  pub value-final : (v : Value) → Final (val v)
-  unfolding plainStep
-  value-final v t′ e = let z : _≡_ {A = ℕ} 0 1 = cc in omega arith
-
-  pub null-final : (t : Plain) → plainStep context t ≡ on-null → Final t
-  null-final t h t′ e = let z : _≡_ {A = ℕ} 0 1 = cc in omega arith
-
-  -- plain Saiga comes no further than where no step is due
-  pub last : (n m : ℕ) (q t t′ : Plain) → plainAt context n q ≡ some t → Final t → plainAt context m q ≡ some t′ → m ≤ n
-  unfolding plainAt
-  last n zero q t t′ h f k = zero-le
-  last zero (suc m) q t t′ h f k =
-      let s = stepped context m q t′ k in
-      let e : q ≡ t = cc in
-      absurd (f (s .0) (ap (plainStep context) (sym e) ∙ s .1))
-  last (suc n) (suc m) q t t′ h f k =
-      let a = stepped context n q t h in
-      let b = stepped context m q t′ k in
-      let same : b .0 ≡ a .0 = cc (a .1, b .1) in
-      suc-le-suc (last n m (a .0) t t′ (a .2) f (rw same at (b .2)))
-
   -- ---- What a run ends with
 
   -- how plain Saiga, asked q, stands to a run that ended so after so many steps

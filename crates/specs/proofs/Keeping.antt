@@ -2,17 +2,18 @@
 use mathlib.Core.Bool.{Bool, true, false, _||_}
 use mathlib.Core.Bool as Bool
 use mathlib.Core.Logic.{_⊎_, inl, inr}
-use mathlib.Core.Option.{Option, none, some, Option·none-ne-some}
+use mathlib.Core.Option.{none, some, Option·none-ne-some}
 use mathlib.Core.List.{List, [], _∷_, _++_}
-use mathlib.Core.Path.{_≡_, refl, sym, _∙_, ap}
-use Prim.Native.Nat.{ℕ, suc, _≤_}
+use mathlib.Core.Path.{_≡_, refl}
+use Prim.Native.Nat.{ℕ, _≤_}
+use native.Mathlib.Omega.{arith}
 use lib.Dec.{leb}
 use lib.ListN.{length}
-use borrow.Author.Tests.{le-leb}
+use borrow.Author.Tests.{leb-false, le-leb, lt-leb}
 use Rattle.specs.specs.Values.{Value}
 use Rattle.specs.specs.Expressions.{Expr}
 use Rattle.specs.specs.Terms.{Occurrence}
-use Rattle.specs.specs.Caching.{Entry, sameOccurrence, kept, isKept, write, Due, finished, counts, writes, halts, State, Ended, dueAt}
+use Rattle.specs.specs.Caching.{Entry, sameOccurrence, kept, isKept, write, State, Ended, dueAt}
 use Rattle.specs.proofs.Same.{same-occurrence}
 use Rattle.specs.proofs.Erasure.{Yields, Right, Faithful, Seen, seen}
 use Rattle.specs.proofs.Ends.{Runs, ends-value, ends-by, goes-counted, goes-writing}
@@ -59,6 +60,11 @@ write-full C s n full = go (isKept (kept s (n .occurrence)))
     go true = refl
     go false = rw (le-leb C (length s) full)
 
+-- While the smaller of two capacities has room, both write alike.
+pub write-alike : (C C′ : ℕ) (s : List Entry) (n : Entry) → C ≤ C′ → leb C (length s) ≡ false → write C s n ≡ write C′ s n
+unfolding write
+write-alike C C′ s n le room = rw (room, lt-leb C′ (length s) (omega (arith, leb-false C (length s) room)))
+
 -- What is kept stays kept.
 pub kept-write : (C : ℕ) (s : List Entry) (n : Entry) (o : Occurrence) (v : Value) → kept s o ≡ some v → kept (write C s n) o ≡ some v
 unfolding write
@@ -99,6 +105,6 @@ module _ (context : ℕ → ℕ → Expr) where
   right-run (ends-value d) r f = r
   right-run (ends-by d) r f = r
   right-run {C} {budget} {st} (goes-counted d rest) r f =
-      let due = rw d at (seen-at C budget st r f) in right-run rest r (due .1)
+      let step = rw d at (seen-at C budget st r f) in right-run rest r (step .1)
   right-run {C} {budget} {st} (goes-writing {n} d rest) r f =
-      let due = rw d at (seen-at C budget st r f) in right-run rest (right-write C (st .entries) n r (due .2)) (due .1)
+      let step = rw d at (seen-at C budget st r f) in right-run rest (right-write C (st .entries) n r (step .2)) (step .1)

@@ -9,6 +9,8 @@ pub mod PlainFacts
 pub mod Erasure
 pub mod Ends
 pub mod Keeping
+pub mod Larger
 pub mod Preservation
+pub mod Entries
 pub mod Compare
 pub mod Demand3

@@ -13,7 +13,7 @@ use borrow.Author.Tests.{ltb-true, lt-ltb}
 use Rattle.specs.specs.Values.{Base, nodeT, Ty, base, _⇒_, Value, unit, bool, int, node, function, holding, Function, le, equalInt, equalNode, negation, add, subtract, Holding, leOf, equalIntOf, equalNodeOf, addTo, subtractFrom, functionType, holdingType, typeOf, null, truth, nodeOf, applyFunction, applyHolding, apply, isWord, ofWord, toWord}
 use Rattle.specs.specs.Expressions.{Expr, Scope}
 use Rattle.specs.specs.Types.{Attribute, attributeAt}
-use Rattle.specs.specs.Terms.{Occurrence, val, cond, app, attr, form, put}
+use Rattle.specs.specs.Terms.{Occurrence, put}
 use Rattle.specs.specs.Caching.{Entry, sameOccurrence, kept, isKept, write, Running, Counted, AppApp, Reason, null-node, spent, depth, Due, finished, counts, writes, halts, duePart, count, keptOr, attrApp, due, State, with-value, by, Ended, dueAt, run}
 use Rattle.specs.proofs.Sound.{IsA, ValueIn, ExprIn, literal∈, if∈, application∈, attribute∈, this∈, parameter∈, OccurrenceIn, EntryIn, All, all-none, all-cons, TermIn, val∈, cond∈, app∈, attr∈, form∈, ContextIn}
 use Rattle.specs.proofs.Words.{held-in, bool-in}
@@ -76,6 +76,10 @@ put-in n v hn hv (parameter∈ e) = val∈ (hv e)
 pub all-append : {A : Type 0} {P : A → Type 0} {l m : List A} → All P l → All P m → All P (l ++ m)
 all-append all-none n = n
 all-append (all-cons h t) n = all-cons h (all-append t n)
+
+pub all-right : {A : Type 0} {P : A → Type 0} (l : List A) {m : List A} → All P (l ++ m) → All P m
+all-right [] h = h
+all-right (x ∷ l) (all-cons h t) = all-right l t
 
 -- A kept value is of its attribute's type, since its entry is one of that attribute.
 pub kept-in : {nodes : ℕ} {sig : List Attribute} {s : List Entry} (o : Occurrence) {v : Value} → All (EntryIn nodes sig) s → kept s o ≡ some v
