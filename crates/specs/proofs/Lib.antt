@@ -13,4 +13,6 @@ pub mod Larger
 pub mod Preservation
 pub mod Entries
 pub mod Compare
+pub mod Endings
+pub mod Calls
 pub mod Demand3
