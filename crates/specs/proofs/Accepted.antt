@@ -12,9 +12,9 @@ use lib.Dec.{leb, ltb, eqb}
 use lib.ListN.{length, take, drop, getD, length-append, length-drop}
 use borrow.Author.Tests.{leb-true, ltb-true, eqb-true}
 use Rattle.specs.specs.Values.{base, Value, ofBytes, isWord}
-use Rattle.specs.specs.Expressions.{Whole, no-expression, expression, readWhole}
+use Rattle.specs.specs.Expressions.{Expr, Whole, no-expression, expression, readWhole}
 use Rattle.specs.specs.Types.{attributeAt}
-use Rattle.specs.specs.Sheet.{Figure, Rule, Sheet, emptySheet, nodeCount, attributeCount, figureFor, ruleFor, ruleScope, Definition, figure, piece-of, ruled, figured, definition, wholeExpr, definitionExpr, context, Command, attribute-command, node-command, figure-command, rule-command, end-command, no-command, commandOf, Read, stops, ends, goes-on, require, readAttribute, readNode, readFigure, requireRule, readRule, readEnd, readCommand, readNext, Checked, refused, accepted, isDefined, gapAt, gapFrom, complete, readCommands, checkSheet}
+use Rattle.specs.specs.Sheet.{Figure, Rule, Sheet, emptySheet, nodeCount, attributeCount, figureFor, ruleFor, ruleScope, Definition, undefined, figure, piece-of, ruled, figured, definition, wholeExpr, definitionExpr, context, Command, attribute-command, node-command, figure-command, rule-command, end-command, no-command, commandOf, Read, stops, ends, goes-on, require, readAttribute, readNode, readFigure, requireRule, readRule, readEnd, readCommand, readNext, Checked, refused, accepted, isDefined, gapAt, gapFrom, complete, readCommands, checkSheet}
 use Rattle.specs.proofs.Sound.{ExprIn, literal∈, All, all-none, all-cons, ContextIn}
 use Rattle.specs.proofs.Words.{word-in}
 use Rattle.specs.proofs.Inference.{hasType-sound}
@@ -32,6 +32,12 @@ abbrev Gives : Sheet → ℕ → Definition → Type 0
 Gives s a d =
     ExprIn (ruleScope s) (s .attributes) (attributeAt (s .attributes) a .parameter-type) (definitionExpr s d) (base (attributeAt (s .attributes) a .result))
 
+-- A definition's bytes are one expression.
+abbrev Reads : Sheet → Definition → Type 0
+Reads s undefined = Unit {0}
+Reads s (figure v) = Unit {0}
+Reads s (piece-of p) = (e : Expr) × (readWhole (ruleScope s) p ≡ expression e)
+
 -- What holds of the sheet between two commands. Attributes and nodes are declared only up to the part of the nodes, where there is
 -- no figure and no rule yet, so each of those was checked on all that is declared.
 record SoFar (s : Sheet) (part : ℕ) : Type 0 where
@@ -41,6 +47,7 @@ record SoFar (s : Sheet) (part : ℕ) : Type 0 where
   no-rules : part ≤ 1 → s .rules ≡ []
   figures-give : All (λ f. Gives s (f .attribute) (figure (f .value))) (s .figures)
   rules-give : All (λ r. Gives s (r .attribute) (piece-of (r .piece))) (s .rules)
+  rules-read : All (λ r. Reads s (piece-of (r .piece))) (s .rules)
 
 -- the stops of a sheet
 abbrev StopNumber : ℕ → Type 0
@@ -60,12 +67,12 @@ module _ (s : Sheet) (part room : ℕ) where
   require-fits true number r n f = f refl
   require-fits false number r n f = n
 
-  require-rule-fits : (a : ℕ) (p : List ℕ) (w : Whole) (r : Read) → readWhole (ruleScope s) p ≡ w → (Gives s a (piece-of p) → Fit s part room r)
+  require-rule-fits : (a : ℕ) (p : List ℕ) (w : Whole) (r : Read) → readWhole (ruleScope s) p ≡ w → (Gives s a (piece-of p) → Reads s (piece-of p) → Fit s part room r)
       → Fit s part room (requireRule s a w r)
   unfolding requireRule ruleScope definitionExpr wholeExpr
   require-rule-fits a p no-expression r e f = omega arith
   require-rule-fits a p (expression x) r e f =
-      require-fits _ 7 r (omega arith) λ t. f (rw (e, wholeExpr) (read-in (ruleScope s) _ _ p x _ refl e (hasType-sound _ _ _ x t)))
+      require-fits _ 7 r (omega arith) λ t. f (rw (e, wholeExpr) (read-in (ruleScope s) _ _ p x _ refl e (hasType-sound _ _ _ x t))) (x, e)
 
   require-both-fits : (a b : Bool) (number : ℕ) (r : Read) → StopNumber number → (a ≡ true → b ≡ true → Fit s part room r)
       → Fit s part room (require (a && b) number r)
@@ -89,6 +96,7 @@ attribute-fits s part l =
         no-rules = λ p. h .no-rules (omega (arith, tests));
         figures-give = rw (h .no-figures (omega (arith, tests))) all-none;
         rules-give = rw (h .no-rules (omega (arith, tests))) all-none;
+        rules-read = rw (h .no-rules (omega (arith, tests))) all-none;
       },
     )
 
@@ -107,6 +115,7 @@ node-fits s part l =
         no-rules = λ p. h .no-rules (omega (arith, tests));
         figures-give = rw (h .no-figures (omega (arith, tests))) all-none;
         rules-give = rw (h .no-rules (omega (arith, tests))) all-none;
+        rules-read = rw (h .no-rules (omega (arith, tests))) all-none;
       },
     )
 
@@ -129,6 +138,7 @@ figure-fits s part l =
         no-rules = λ p. absurd (omega arith);
         figures-give = all-cons (literal∈ (word-in (nodeCount s) t w word)) (h .figures-give);
         rules-give = h .rules-give;
+        rules-read = h .rules-read;
       },
     )
 
@@ -139,7 +149,7 @@ rule-fits s part l =
     require-both-fits s part _ (leb part 3 && leb (4 + n) (length l)) (leb 4 (length l)) 2 _ (omega arith) λ fit long.
     require-fits s part _ _ 4 _ (omega arith) λ declared.
     require-fits s part _ _ 5 _ (omega arith) λ new.
-    require-rule-fits s part _ _ _ _ _ refl λ gives.
+    require-rule-fits s part _ _ _ _ _ refl λ gives reads.
     let fits : 4 + n ≤ length l = leb-true (4 + n) (length l) (and-eq-true-iff (leb part 3) (leb (4 + n) (length l)) .0 fit .1) in (
       omega arith,
       omega arith,
@@ -150,6 +160,7 @@ rule-fits s part l =
         no-rules = λ p. absurd (omega arith);
         figures-give = h .figures-give;
         rules-give = all-cons gives (h .rules-give);
+        rules-read = all-cons reads (h .rules-read);
       },
     )
 
@@ -248,21 +259,24 @@ node-complete s (suc k) n m e p q = go (gapAt s (attributeCount s) n 0) refl (eq
 
 abbrev Verdict : Checked Sheet → Type 0
 Verdict (refused number place) = StopNumber number
-Verdict (accepted s) = AcceptedSheet s
+Verdict (accepted s) = AcceptedSheet s × ((k a : ℕ) → Found (λ p. Reads s (piece-of p)) (ruleFor (s .rules) k a))
 
 complete-verdict : (s : Sheet) (part : ℕ) (o : Option ℕ) → gapFrom s (nodeCount s) 0 ≡ o → SoFar s part → Verdict (complete s o)
 unfolding complete ruleScope context definition
 complete-verdict s part (some place) e h = omega arith
-complete-verdict s part none e h = record {
-  nodes-bound = h .nodes-bound;
-  attributes-bound = h .attributes-bound;
-  context-in = record {
-    scope = ruleScope s;
-    same-nodes = refl;
-    defines = λ n a p q. in-force (Gives s) a _ _ (figure-found (Gives s) a n (s .figures) (h .figures-give)) (rule-found (Gives s) a _ (s .rules) (h .rules-give))
-        (attribute-defined s (attributeCount s) n 0 a (node-complete s (nodeCount s) 0 n e (omega arith) (omega arith)) (omega arith) (omega arith));
-  };
-}
+complete-verdict s part none e h = (
+  record {
+    nodes-bound = h .nodes-bound;
+    attributes-bound = h .attributes-bound;
+    context-in = record {
+      scope = ruleScope s;
+      same-nodes = refl;
+      defines = λ n a p q. in-force (Gives s) a _ _ (figure-found (Gives s) a n (s .figures) (h .figures-give)) (rule-found (Gives s) a _ (s .rules) (h .rules-give))
+          (attribute-defined s (attributeCount s) n 0 a (node-complete s (nodeCount s) 0 n e (omega arith) (omega arith)) (omega arith) (omega arith));
+    };
+  },
+  λ k a. rule-found (λ b d. Reads s d) a k (s .rules) (h .rules-read),
+)
 
 commands-verdict : (k : ℕ) (s : Sheet) (part at : ℕ) (l : List ℕ) → SoFar s part → Verdict (readCommands k s part at l)
 unfolding readCommands
@@ -281,11 +295,16 @@ sheet-verdict bytes = go (leb (length bytes) 65536)
   where
     go : (b : Bool) → Verdict (cond b (readCommands (suc (length bytes)) emptySheet 0 0 bytes) (refused 1 0))
     go true = commands-verdict (suc (length bytes)) emptySheet 0 0 bytes
-        (record { nodes-bound = omega arith; attributes-bound = omega arith; no-figures = λ p. refl; no-rules = λ p. refl; figures-give = all-none; rules-give = all-none })
+        (record { nodes-bound = omega arith; attributes-bound = omega arith; no-figures = λ p. refl; no-rules = λ p. refl; figures-give = all-none; rules-give = all-none; rules-read = all-none })
     go false = omega arith
 
 pub accepted-sheet : (bytes : List ℕ) (s : Sheet) → checkSheet bytes ≡ accepted s → AcceptedSheet s
-accepted-sheet bytes s e = subst Verdict e (sheet-verdict bytes)
+accepted-sheet bytes s e = subst Verdict e (sheet-verdict bytes) .0
+
+-- every rule of an accepted sheet is one expression
+pub rule-reads : (bytes : List ℕ) (s : Sheet) → checkSheet bytes ≡ accepted s → (k a : ℕ) (p : List ℕ) → ruleFor (s .rules) k a ≡ some p
+    → (e : Expr) × (readWhole (ruleScope s) p ≡ expression e)
+rule-reads bytes s e k a p f = subst (Found (λ p. Reads s (piece-of p))) f (subst Verdict e (sheet-verdict bytes) .1 k a)
 
 pub refused-numbers : (bytes : List ℕ) (number place : ℕ) → checkSheet bytes ≡ refused number place → (1 ≤ number) × (number ≤ 8)
 refused-numbers bytes number place e = subst Verdict e (sheet-verdict bytes)

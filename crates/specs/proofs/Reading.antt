@@ -149,7 +149,7 @@ exactly-reads n (reads d w) e h =
     let v = eqb-true w n t in
     cc
 
-whole-reads : (s : Scope) (l : List ℕ) (e : Expr) → readWhole s l ≡ expression e → readExpr s (length l) l ≡ reads e (length l)
+pub whole-reads : (s : Scope) (l : List ℕ) (e : Expr) → readWhole s l ≡ expression e → readExpr s (length l) l ≡ reads e (length l)
 unfolding readWhole
 whole-reads s l e h = exactly-reads (length l) _ e (cond-passes (leb (length l) 256) h no-whole .1)
 
