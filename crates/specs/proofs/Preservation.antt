@@ -7,10 +7,11 @@ use mathlib.Core.List.{List, [], _∷_, _++_}
 use mathlib.Core.Path.{_≡_, refl, sym, _∙_, ap, subst}
 use Prim.Native.Nat.{ℕ, zero, suc, _<_}
 use lib.Dec.{eqb, ltb, leb}
+use lib.IntN.{ℤ}
 use lib.ListN.{length}
 use native.Mathlib.Omega.{arith}
 use borrow.Author.Tests.{ltb-true, lt-ltb}
-use Rattle.specs.specs.Values.{Base, nodeT, Ty, base, _⇒_, Value, unit, bool, int, node, function, holding, Function, le, equalInt, equalNode, negation, add, subtract, Holding, leOf, equalIntOf, equalNodeOf, addTo, subtractFrom, functionType, holdingType, typeOf, null, truth, nodeOf, applyFunction, applyHolding, apply, isWord, ofWord, toWord}
+use Rattle.specs.specs.Values.{Base, unitT, boolT, intT, nodeT, Ty, base, _⇒_, Value, unit, bool, int, node, function, holding, Function, le, equalInt, equalNode, negation, add, subtract, Holding, leOf, equalIntOf, equalNodeOf, addTo, subtractFrom, functionType, holdingType, typeOf, null, truth, nodeOf, applyFunction, applyHolding, apply, isWord, ofWord, toWord}
 use Rattle.specs.specs.Expressions.{Expr, Scope}
 use Rattle.specs.specs.Types.{Attribute, attributeAt}
 use Rattle.specs.specs.Terms.{Occurrence, put}
@@ -57,6 +58,21 @@ apply-in nodes B T (holding f) x e h = holding-in nodes x f e
 node-in : (nodes n : ℕ) → n < nodes → IsA nodes nodeT (node n)
 unfolding isWord ofWord toWord
 node-in nodes n h = record { is-word = rw (lt-ltb n nodes h) refl; round-trip = refl }
+
+-- Canonical forms: a value of a base type is of that type's form, so an accepted question never meets the other cases of `truth`,
+-- `number` and `nodeOf`.
+abbrev pub Canonical : Base → Value → Type 0
+Canonical unitT v = v ≡ unit
+Canonical boolT v = (b : Bool) × (v ≡ bool b)
+Canonical intT v = (z : ℤ) × (v ≡ int z)
+Canonical nodeT v = (n : ℕ) × (v ≡ node n)
+
+pub canonical : {nodes : ℕ} (B : Base) {v : Value} → IsA nodes B v → Canonical B v
+unfolding ofWord
+canonical unitT h = sym (h .round-trip)
+canonical boolT h = (_, sym (h .round-trip))
+canonical intT h = (_, sym (h .round-trip))
+canonical nodeT h = (_, sym (h .round-trip))
 
 -- ---- Expressions
 

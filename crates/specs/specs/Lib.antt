@@ -11,3 +11,4 @@ pub mod Ask
 pub mod Calls
 pub mod Demand3
 pub mod TableL
+pub mod Misreadings

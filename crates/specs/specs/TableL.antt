@@ -4,10 +4,14 @@ use mathlib.Core.Path.{_≡_}
 use Prim.Native.Nat.{ℕ, _*_}
 use lib.ListN.{replicate, take, length}
 use lib.IntN.{ℤ, pos}
-use Rattle.specs.specs.Values.{Value, unit, int, node}
+use mathlib.Core.Bool.{true}
+use Rattle.specs.specs.Values.{Value, unit, bool, int, node}
+use Rattle.specs.specs.Expressions.{Expr}
+use Rattle.specs.specs.Sheet.{Sheet, accepted, checkSheet, context}
+use Rattle.specs.specs.Plain.{EndsWithValue, EndsOnNull, RunsForEver}
 use Rattle.specs.specs.Caching.{Entry}
 use Rattle.specs.specs.Store.{entriesBytes}
-use Rattle.specs.specs.Ask.{Answer}
+use Rattle.specs.specs.Ask.{Answer, checkQuestion, asked}
 use Rattle.specs.specs.Calls.{Call, Lent, answers, afterCalls}
 
 -- "Sheet L, 103 bytes: attributes up (0, Node), own (1, Int), dial (2, Int), all with Unit parameter. Nodes 0 (kind 0), 1 and 2
@@ -135,3 +139,18 @@ unfoldable pub TableL : Type 0
 TableL =
     (bring tableL ≡ brought tableL)
     × (take 60 (afterCalls sheetL (empty 1024) (put-to D 1000000 ∷ []) .store) ≡ entriesBytes keptL1)
+
+-- ---- Plain Saiga on the same bytes
+
+-- A sheet and a question are accepted, and what they say ends so.
+unfoldable pub Plainly : List ℕ → List ℕ → (Sheet → Expr → Type 0) → Type 0
+Plainly sheet question Ends =
+    (s : Sheet) × (e : Expr) × (checkSheet sheet ≡ accepted s) × (checkQuestion s question ≡ accepted e) × Ends s e
+
+-- "D takes 8, L6 takes 18, L10 ends on null after 1, L12 runs for ever."
+unfoldable pub PlainL : Type 0
+PlainL =
+    Plainly sheetL D (λ s e. EndsWithValue (context s) (asked e) (int (pos 700)) 8)
+    × Plainly sheetL equalDD (λ s e. EndsWithValue (context s) (asked e) (bool true) 18)
+    × Plainly sheetL ownOfUp (λ s e. EndsOnNull (context s) (asked e) 1)
+    × Plainly sheetL12 itself (λ s e. RunsForEver (context s) (asked e))

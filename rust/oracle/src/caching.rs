@@ -1,0 +1,148 @@
+//! The caching steps: document 01, "The steps", with stops 14 to 16.
+//!
+//! A recursive evaluator over the expression tree. A call of `evaluate` inside that of a definition is what lies inside
+//! the form n.a(v) := e.
+
+use std::thread;
+
+use crate::expr::Expr;
+use crate::sheet::{Definition, Sheet};
+use crate::stop::Reason;
+use crate::store::{Occurrence, Store};
+use crate::values::Value;
+
+/// How many forms can be open.
+pub const MOST_OPEN: usize = 64;
+
+/// Nesting that the caller's own stack is trusted with.
+const SHALLOW: usize = 1_000;
+/// More than one call of `evaluate` takes on the stack, optimised or not.
+const STACK_PER_LEVEL: usize = 4_096;
+
+/// What stands for 0x30 and 0x31; a question has neither.
+type Here = Option<(u16, Value)>;
+
+struct Run<'a, 's> {
+    sheet: &'a Sheet,
+    store: &'a mut Store<'s>,
+    budget: u64,
+    steps: u64,
+    open: usize,
+}
+
+/// Evaluates an accepted question: the value or the stop, and the steps counted.
+pub fn evaluate(
+    sheet: &Sheet,
+    store: &mut Store,
+    question: &Expr,
+    budget: u64,
+) -> (Result<Value, Reason>, u64) {
+    let levels = question.depth() + MOST_OPEN * (1 + sheet.deepest_rule());
+    let mut run = Run {
+        sheet,
+        store,
+        budget,
+        steps: 0,
+        open: 0,
+    };
+    let ending = if levels <= SHALLOW {
+        run.evaluate(question, None)
+    } else {
+        thread::scope(|scope| {
+            thread::Builder::new()
+                .stack_size(levels * STACK_PER_LEVEL)
+                .spawn_scoped(scope, || run.evaluate(question, None))
+                .expect("a thread for the evaluator")
+                .join()
+                .expect("the evaluator does not panic")
+        })
+    };
+    (ending, run.steps)
+}
+
+impl<'a> Run<'a, '_> {
+    fn evaluate(&mut self, mut expr: &'a Expr, here: Here) -> Result<Value, Reason> {
+        loop {
+            match expr {
+                Expr::Literal(value) => return Ok(*value),
+                Expr::ThisNode => {
+                    let (node, _) = here.expect("a question does not say 0x30");
+                    return Ok(Value::Node(Some(node)));
+                }
+                Expr::Parameter => {
+                    let (_, parameter) = here.expect("a question does not say 0x31");
+                    return Ok(parameter);
+                }
+                Expr::If(condition, yes, no) => {
+                    let condition = self.evaluate(condition, here)?;
+                    self.count()?;
+                    expr = match condition {
+                        Value::Bool(true) => yes,
+                        Value::Bool(false) => no,
+                        other => unreachable!("ill typed: IF {other:?}"),
+                    };
+                }
+                Expr::Apply(function, argument) => {
+                    let function = self.evaluate(function, here)?;
+                    let argument = self.evaluate(argument, here)?;
+                    self.count()?;
+                    return Ok(function.apply(argument));
+                }
+                Expr::Attribute(attribute, node, parameter) => {
+                    let node = self.evaluate(node, here)?;
+                    let parameter = self.evaluate(parameter, here)?;
+                    return self.attribute(node, *attribute, parameter);
+                }
+            }
+        }
+    }
+
+    /// AttrApp, what lies inside the form it opens, and CacheWrite.
+    fn attribute(&mut self, node: Value, attribute: u8, parameter: Value) -> Result<Value, Reason> {
+        let node = match node {
+            Value::Node(Some(node)) => node,
+            Value::Node(None) => return Err(Reason::Null),
+            other => unreachable!("ill typed: attribute of {other:?}"),
+        };
+        if self.spent() {
+            return Err(Reason::Spent);
+        }
+        if self.open == MOST_OPEN {
+            return Err(Reason::Depth);
+        }
+        self.steps += 1;
+        let occurrence = Occurrence {
+            node,
+            attribute,
+            parameter,
+        };
+        if let Some(value) = self.store.value(&occurrence) {
+            return Ok(value);
+        }
+        let value = match self.sheet.definition(node, attribute) {
+            Definition::Figure(value) => value,
+            Definition::Rule(expr) => {
+                self.open += 1;
+                let value = self.evaluate(expr, Some((node, parameter)))?;
+                self.open -= 1;
+                value
+            }
+        };
+        self.store.write(occurrence, value);
+        Ok(value)
+    }
+
+    /// Whether a step due now finds the whole budget used.
+    fn spent(&self) -> bool {
+        self.steps == self.budget
+    }
+
+    /// Counts a step of IF or application.
+    fn count(&mut self) -> Result<(), Reason> {
+        if self.spent() {
+            return Err(Reason::Spent);
+        }
+        self.steps += 1;
+        Ok(())
+    }
+}

@@ -1,0 +1,116 @@
+//! An engine compared with the oracle: every field of every answer, every byte of the store after it.
+
+use std::collections::BTreeMap;
+use std::fmt;
+
+use crate::ask::Answer;
+use crate::case::Case;
+use crate::engine::{Engine, Oracle};
+
+/// What was tried.
+#[derive(Clone, Debug, Default, PartialEq, Eq)]
+pub struct Counts {
+    /// Answers to the lists' own questions, by number.
+    pub answers: BTreeMap<i64, u64>,
+    /// Checks, by what was checked.
+    pub checks: BTreeMap<&'static str, u64>,
+}
+
+impl Counts {
+    pub fn answer(&mut self, answer: &Answer) {
+        *self.answers.entry(answer.number).or_default() += 1;
+    }
+
+    pub fn check(&mut self, part: &'static str) {
+        *self.checks.entry(part).or_default() += 1;
+    }
+
+    pub fn add(&mut self, other: &Counts) {
+        for (number, count) in &other.answers {
+            *self.answers.entry(*number).or_default() += count;
+        }
+        for (part, count) in &other.checks {
+            *self.checks.entry(part).or_default() += count;
+        }
+    }
+
+    /// The numbers from 0 to 16 that no answer had.
+    pub fn unmet(&self) -> Vec<i64> {
+        (0..=16)
+            .filter(|number| !self.answers.contains_key(number))
+            .collect()
+    }
+}
+
+impl fmt::Display for Counts {
+    fn fmt(&self, f: &mut fmt::Formatter) -> fmt::Result {
+        for (number, count) in &self.answers {
+            writeln!(f, "number {number}: {count}")?;
+        }
+        for (part, count) in &self.checks {
+            writeln!(f, "{part}: {count}")?;
+        }
+        Ok(())
+    }
+}
+
+/// Where an engine differs from the oracle.
+#[derive(Clone, Debug, PartialEq, Eq)]
+pub struct Mismatch {
+    /// The question's number in the list, from 0.
+    pub question: usize,
+    pub expected: Answer,
+    pub answer: Answer,
+    /// The first byte of the store left that differs: its offset, the oracle's byte, the engine's.
+    pub byte: Option<(usize, u8, u8)>,
+}
+
+impl fmt::Display for Mismatch {
+    fn fmt(&self, f: &mut fmt::Formatter) -> fmt::Result {
+        write!(
+            f,
+            "question {}: oracle {}, engine {}",
+            self.question, self.expected, self.answer
+        )?;
+        if let Some((at, expected, got)) = self.byte {
+            write!(
+                f,
+                "; store byte {at}: oracle {expected:02x}, engine {got:02x}"
+            )?;
+        }
+        Ok(())
+    }
+}
+
+/// Puts a list to an engine and to the oracle.
+pub fn compare<E: Engine + ?Sized>(engine: &mut E, case: &Case) -> Result<Counts, Box<Mismatch>> {
+    let mut oracle = Oracle::default();
+    let mut counts = Counts::default();
+    let mut store = case.store.clone();
+    let mut expected_store = case.store.clone();
+    let mut kept = case.kept;
+    for (question, ask) in case.asks.iter().enumerate() {
+        let expected = oracle.ask(
+            &case.sheet,
+            &mut expected_store,
+            kept,
+            &ask.question,
+            ask.budget,
+        );
+        let answer = engine.ask(&case.sheet, &mut store, kept, &ask.question, ask.budget);
+        let byte = (0..store.len())
+            .find(|at| store[*at] != expected_store[*at])
+            .map(|at| (at, expected_store[at], store[at]));
+        if answer != expected || byte.is_some() {
+            return Err(Box::new(Mismatch {
+                question,
+                expected,
+                answer,
+                byte,
+            }));
+        }
+        counts.answer(&answer);
+        kept = answer.kept as u64;
+    }
+    Ok(counts)
+}

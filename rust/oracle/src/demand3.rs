@@ -1,0 +1,343 @@
+//! Demand 3's four parts (document 01, "Contracts"), tried on an engine's answers against plain Saiga.
+//!
+//! - (a) If plain Saiga ends with a value or on null in n steps, every permitted budget from n on, put at that place of
+//!   the list, brings that ending in at most n steps, or stop 16.
+//! - (b) Whatever the budget, such an ending is reported only if plain Saiga comes to the same in no fewer steps.
+//! - (c) Where the list brings such an ending, any larger store brings the same one there in no more steps.
+//! - (d) From any one store, every larger permitted budget gives the same answer and leaves the same store, unless the
+//!   smaller budget's answer was 15.
+//!
+//! (a) to (c) are for accepted sheets and lists that start with nothing kept. Where plain Saiga still runs after the
+//! limit, (a) is not tried, and (b) cannot be settled: a kept value can spare any number of steps.
+//!
+//! Beside them, with a store of capacity 0 every step is a plain one: an ending is then plain Saiga's, count and all.
+
+use std::fmt;
+
+use crate::ask::{read_question, Answer, MOST_STEPS};
+use crate::case::{Ask, Case};
+use crate::compare::Counts;
+use crate::engine::Engine;
+use crate::plain::{self, Ending};
+use crate::sheet::Sheet;
+use crate::stop::Reason;
+use crate::store::{well_shaped, ENTRY, MOST_ENTRIES};
+
+/// How many steps plain Saiga is given.
+pub const PLAIN_LIMIT: u64 = 20_000;
+
+const NULL: i64 = Reason::Null as i64;
+const SPENT: i64 = Reason::Spent as i64;
+const DEPTH: i64 = Reason::Depth as i64;
+
+/// What is checked, as it is named in counts and violations.
+const A: &str = "demand 3 (a)";
+const B: &str = "demand 3 (b)";
+const B_UNSETTLED: &str = "demand 3 (b), not settled";
+const C: &str = "demand 3 (c)";
+const D: &str = "demand 3 (d)";
+const CAPACITY_0: &str = "capacity 0";
+
+/// A part of demand 3 that an engine breaks, or the check of capacity 0.
+#[derive(Clone, Debug, PartialEq, Eq)]
+pub struct Violation {
+    pub part: &'static str,
+    /// The question's number in the list, from 0.
+    pub question: usize,
+    pub detail: String,
+}
+
+impl fmt::Display for Violation {
+    fn fmt(&self, f: &mut fmt::Formatter) -> fmt::Result {
+        write!(
+            f,
+            "{}, question {}: {}",
+            self.part, self.question, self.detail
+        )
+    }
+}
+
+/// A store as it is lent to, or left by, a question.
+#[derive(Clone, PartialEq, Eq)]
+struct Lent {
+    bytes: Vec<u8>,
+    kept: u64,
+}
+
+impl Lent {
+    fn ask<E: Engine + ?Sized>(
+        &mut self,
+        engine: &mut E,
+        sheet: &[u8],
+        question: &[u8],
+        budget: u64,
+    ) -> Answer {
+        let answer = engine.ask(sheet, &mut self.bytes, self.kept, question, budget);
+        self.kept = answer.kept as u64;
+        answer
+    }
+}
+
+/// Tries all four parts on a list.
+pub fn demand3<E: Engine + ?Sized>(engine: &mut E, case: &Case) -> Result<Counts, Violation> {
+    let sheet = Sheet::read(&case.sheet).ok();
+    let claimed = sheet.filter(|_| case.kept == 0 && well_shaped(&case.store));
+    let mut counts = Counts::default();
+    let mut answers = Vec::new();
+    let mut lent = Lent {
+        bytes: case.store.clone(),
+        kept: case.kept,
+    };
+    for (question, ask) in case.asks.iter().enumerate() {
+        let ending = claimed.as_ref().and_then(|sheet| {
+            let question = read_question(&ask.question, sheet).ok()?;
+            Some(plain::run(sheet, &question, PLAIN_LIMIT))
+        });
+        let before = lent.clone();
+        let answer = lent.ask(engine, &case.sheet, &ask.question, ask.budget);
+        counts.answer(&answer);
+        let own = Tried {
+            budget: ask.budget,
+            answer,
+            left: lent.clone(),
+        };
+        let place = Place {
+            sheet: &case.sheet,
+            ask,
+            before,
+            ending,
+        };
+        place
+            .try_budgets(engine, own, &mut counts)
+            .map_err(|(part, detail)| Violation {
+                part,
+                question,
+                detail,
+            })?;
+        answers.push(answer);
+    }
+    if claimed.is_some() {
+        try_larger_stores(engine, case, &answers, &mut counts)?;
+    }
+    Ok(counts)
+}
+
+/// A question at its place of the list.
+struct Place<'a> {
+    sheet: &'a [u8],
+    ask: &'a Ask,
+    before: Lent,
+    /// Plain Saiga's, where (a) and (b) claim something.
+    ending: Option<Ending>,
+}
+
+/// What one budget brought.
+struct Tried {
+    budget: u64,
+    answer: Answer,
+    left: Lent,
+}
+
+impl Place<'_> {
+    /// Parts (a), (b) and (d), over budgets around the boundaries.
+    fn try_budgets<E: Engine + ?Sized>(
+        &self,
+        engine: &mut E,
+        own: Tried,
+        counts: &mut Counts,
+    ) -> Result<(), (&'static str, String)> {
+        let mut tried: Vec<Tried> = self
+            .budgets(&own.answer)
+            .into_iter()
+            .map(|budget| {
+                let mut left = self.before.clone();
+                let answer = left.ask(engine, self.sheet, &self.ask.question, budget);
+                Tried {
+                    budget,
+                    answer,
+                    left,
+                }
+            })
+            .collect();
+        if own.budget <= MOST_STEPS {
+            tried.push(own);
+            tried.sort_by_key(|tried| tried.budget);
+        } else {
+            self.try_b(&own, counts).map_err(|detail| (B, detail))?;
+        }
+        for tried in &tried {
+            self.try_a(tried, counts).map_err(|detail| (A, detail))?;
+            self.try_b(tried, counts).map_err(|detail| (B, detail))?;
+            self.try_capacity_0(tried, counts)
+                .map_err(|detail| (CAPACITY_0, detail))?;
+        }
+        for pair in tried.windows(2) {
+            try_d(&pair[0], &pair[1], counts).map_err(|detail| (D, detail))?;
+        }
+        Ok(())
+    }
+
+    /// Permitted budgets beside the question's own, each once.
+    fn budgets(&self, own: &Answer) -> Vec<u64> {
+        let steps = own.steps.max(0) as u64;
+        let mut budgets = vec![0, MOST_STEPS];
+        let count = match self.ending {
+            Some(Ending::Value(_, count) | Ending::Null(count)) => count,
+            _ => steps,
+        };
+        for middle in [steps, count, self.ask.budget] {
+            budgets.extend([
+                middle.saturating_sub(1),
+                middle,
+                middle.saturating_add(1),
+                middle.saturating_mul(2),
+            ]);
+        }
+        budgets.retain(|budget| *budget <= MOST_STEPS && *budget != self.ask.budget);
+        budgets.sort_unstable();
+        budgets.dedup();
+        budgets
+    }
+
+    fn try_a(&self, tried: &Tried, counts: &mut Counts) -> Result<(), String> {
+        let Some(ending @ (Ending::Value(_, n) | Ending::Null(n))) = self.ending else {
+            return Ok(());
+        };
+        if tried.budget < n {
+            return Ok(());
+        }
+        counts.check(A);
+        let answer = &tried.answer;
+        if answer.number == DEPTH || (same_ending(answer, ending) && answer.steps <= n as i64) {
+            return Ok(());
+        }
+        Err(self.differs(tried))
+    }
+
+    fn try_b(&self, tried: &Tried, counts: &mut Counts) -> Result<(), String> {
+        let answer = &tried.answer;
+        match self.ending {
+            Some(ending @ (Ending::Value(_, n) | Ending::Null(n))) if ended(answer) => {
+                counts.check(B);
+                if same_ending(answer, ending) && answer.steps <= n as i64 {
+                    Ok(())
+                } else {
+                    Err(self.differs(tried))
+                }
+            }
+            Some(Ending::Running(_)) if ended(answer) => {
+                counts.check(B_UNSETTLED);
+                Ok(())
+            }
+            _ => Ok(()),
+        }
+    }
+
+    fn try_capacity_0(&self, tried: &Tried, counts: &mut Counts) -> Result<(), String> {
+        let answer = &tried.answer;
+        if !self.before.bytes.is_empty() || !ended(answer) {
+            return Ok(());
+        }
+        let good = match self.ending {
+            Some(ending @ (Ending::Value(_, n) | Ending::Null(n))) => {
+                same_ending(answer, ending) && answer.steps == n as i64
+            }
+            Some(Ending::Running(n)) => answer.steps > n as i64,
+            None => return Ok(()),
+        };
+        counts.check(CAPACITY_0);
+        if good {
+            Ok(())
+        } else {
+            Err(self.differs(tried))
+        }
+    }
+
+    fn differs(&self, tried: &Tried) -> String {
+        format!(
+            "plain Saiga: {:?}, but budget {} brings {}",
+            self.ending, tried.budget, tried.answer
+        )
+    }
+}
+
+/// Whether an answer reports an ending at all.
+fn ended(answer: &Answer) -> bool {
+    answer.number == 0 || answer.number == NULL
+}
+
+/// Whether an answer reports an ending of plain Saiga: number, type and value.
+fn same_ending(answer: &Answer, ending: Ending) -> bool {
+    let reported = (answer.number, answer.typ, answer.value);
+    match ending {
+        Ending::Value(value, _) => value
+            .base()
+            .is_some_and(|base| reported == (0, i64::from(base.code()), value.number())),
+        Ending::Null(_) => reported == (NULL, 0, 0),
+        Ending::Running(_) => false,
+    }
+}
+
+fn try_d(smaller: &Tried, larger: &Tried, counts: &mut Counts) -> Result<(), String> {
+    if smaller.answer.number == SPENT {
+        return Ok(());
+    }
+    counts.check(D);
+    if smaller.answer == larger.answer && smaller.left == larger.left {
+        return Ok(());
+    }
+    let stores = if smaller.left == larger.left {
+        "alike"
+    } else {
+        "different"
+    };
+    Err(format!(
+        "budget {} brings {}, budget {} brings {}, stores left {stores}",
+        smaller.budget, smaller.answer, larger.budget, larger.answer
+    ))
+}
+
+/// Part (c), with the answers that the list brought.
+fn try_larger_stores<E: Engine + ?Sized>(
+    engine: &mut E,
+    case: &Case,
+    answers: &[Answer],
+    counts: &mut Counts,
+) -> Result<(), Violation> {
+    let capacity = case.store.len() / ENTRY;
+    let mut larger = vec![
+        capacity + 1,
+        capacity + 5,
+        (capacity + MOST_ENTRIES).div_ceil(2),
+        MOST_ENTRIES,
+    ];
+    larger.retain(|larger| *larger > capacity && *larger <= MOST_ENTRIES);
+    larger.dedup();
+    for larger in larger {
+        let mut lent = Lent {
+            bytes: (0..larger * ENTRY)
+                .map(|at| (at * 151 + larger) as u8)
+                .collect(),
+            kept: 0,
+        };
+        for (question, (ask, before)) in case.asks.iter().zip(answers).enumerate() {
+            let after = lent.ask(engine, &case.sheet, &ask.question, ask.budget);
+            if !ended(before) {
+                continue;
+            }
+            counts.check(C);
+            let same =
+                (before.number, before.typ, before.value) == (after.number, after.typ, after.value);
+            if !same || after.steps > before.steps {
+                return Err(Violation {
+                    part: C,
+                    question,
+                    detail: format!(
+                        "capacity {capacity} brings {before}, capacity {larger} brings {after}"
+                    ),
+                });
+            }
+        }
+    }
+    Ok(())
+}

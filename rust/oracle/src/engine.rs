@@ -1,0 +1,60 @@
+//! What can be asked: the oracle itself, or an engine under comparison.
+
+use crate::ask::{ask_accepted, refusal, Answer};
+use crate::sheet::Sheet;
+use crate::stop::Stop;
+
+/// Something that answers as document 01 says, or should.
+pub trait Engine {
+    /// The answer to one question; `store` is lent and is left as the answer's run leaves it.
+    fn ask(
+        &mut self,
+        sheet: &[u8],
+        store: &mut [u8],
+        kept: u64,
+        question: &[u8],
+        budget: u64,
+    ) -> Answer;
+}
+
+impl<F> Engine for F
+where
+    F: FnMut(&[u8], &mut [u8], u64, &[u8], u64) -> Answer,
+{
+    fn ask(
+        &mut self,
+        sheet: &[u8],
+        store: &mut [u8],
+        kept: u64,
+        question: &[u8],
+        budget: u64,
+    ) -> Answer {
+        self(sheet, store, kept, question, budget)
+    }
+}
+
+/// The oracle as an engine. It answers as `ask` does and reads a sheet once for all the questions that follow on it.
+#[derive(Default)]
+pub struct Oracle {
+    last: Option<(Vec<u8>, Result<Sheet, Stop>)>,
+}
+
+impl Engine for Oracle {
+    fn ask(
+        &mut self,
+        sheet: &[u8],
+        store: &mut [u8],
+        kept: u64,
+        question: &[u8],
+        budget: u64,
+    ) -> Answer {
+        let read = match self.last.take() {
+            Some((bytes, read)) if bytes == sheet => self.last.insert((bytes, read)),
+            _ => self.last.insert((sheet.to_vec(), Sheet::read(sheet))),
+        };
+        match &read.1 {
+            Ok(sheet) => ask_accepted(sheet, store, kept, question, budget),
+            Err(stop) => refusal(*stop, kept),
+        }
+    }
+}

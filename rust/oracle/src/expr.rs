@@ -1,0 +1,145 @@
+//! Expressions: their form and their types (document 01, "The sheet"; document 001, figures 5 and 8).
+
+use crate::values::{self, Base, Function, Type, Value};
+
+/// The greatest length of an expression in bytes.
+pub const LONGEST: usize = 256;
+
+/// An expression as a sheet or a question writes it.
+#[derive(Clone, Debug, PartialEq)]
+pub enum Expr {
+    Literal(Value),
+    If(Box<Expr>, Box<Expr>, Box<Expr>),
+    Apply(Box<Expr>, Box<Expr>),
+    /// Attribute number, node, parameter.
+    Attribute(u8, Box<Expr>, Box<Expr>),
+    ThisNode,
+    Parameter,
+}
+
+/// An attribute's declaration.
+#[derive(Clone, Copy, Debug, PartialEq, Eq)]
+pub struct Attribute {
+    pub result: Base,
+    pub parameter: Base,
+}
+
+/// What an expression can speak of.
+#[derive(Clone, Copy, Debug)]
+pub struct Scope<'a> {
+    pub attributes: &'a [Attribute],
+    pub nodes: usize,
+    /// The type of 0x31 in a rule; `None` in a question, which has neither 0x30 nor 0x31.
+    pub parameter: Option<Base>,
+}
+
+impl Expr {
+    /// The expression that `bytes` write from the first to the last of them.
+    pub fn read(bytes: &[u8], scope: Scope) -> Option<Expr> {
+        match read_head(bytes, scope)? {
+            (expr, []) => Some(expr),
+            _ => None,
+        }
+    }
+
+    /// The type of the expression, where it has one.
+    pub fn type_of(&self, scope: Scope) -> Option<Type> {
+        match self {
+            Expr::Literal(Value::Function(function)) => Some(function.type_of()),
+            Expr::Literal(value) => value.base().map(Type::Base),
+            Expr::If(condition, yes, no) => {
+                let condition = condition.type_of(scope)?;
+                let yes = yes.type_of(scope)?;
+                let no = no.type_of(scope)?;
+                (condition == Type::Base(Base::Bool) && yes == no).then_some(yes)
+            }
+            Expr::Apply(function, argument) => {
+                let Type::Function(from, to) = function.type_of(scope)? else {
+                    return None;
+                };
+                (argument.type_of(scope)? == Type::Base(from)).then_some(*to)
+            }
+            Expr::Attribute(attribute, node, parameter) => {
+                let declared = scope.attributes[usize::from(*attribute)];
+                let node = node.type_of(scope)?;
+                let parameter = parameter.type_of(scope)?;
+                (node == Type::Base(Base::Node) && parameter == Type::Base(declared.parameter))
+                    .then_some(Type::Base(declared.result))
+            }
+            Expr::ThisNode => scope.parameter.map(|_| Type::Base(Base::Node)),
+            Expr::Parameter => scope.parameter.map(Type::Base),
+        }
+    }
+
+    /// How many expressions lie one inside the other.
+    pub fn depth(&self) -> usize {
+        1 + match self {
+            Expr::If(a, b, c) => a.depth().max(b.depth()).max(c.depth()),
+            Expr::Apply(a, b) | Expr::Attribute(_, a, b) => a.depth().max(b.depth()),
+            Expr::Literal(_) | Expr::ThisNode | Expr::Parameter => 0,
+        }
+    }
+}
+
+/// The expression at the front of `bytes`, and the bytes after it.
+fn read_head<'b>(bytes: &'b [u8], scope: Scope) -> Option<(Expr, &'b [u8])> {
+    let (head, rest) = bytes.split_first()?;
+    match head {
+        0x10 => Some((Expr::Literal(Value::Unit), rest)),
+        0x11 => {
+            let (operand, rest) = take::<1>(rest)?;
+            let value = match operand {
+                [0] => Value::Bool(false),
+                [1] => Value::Bool(true),
+                _ => return None,
+            };
+            Some((Expr::Literal(value), rest))
+        }
+        0x12 => {
+            let (operand, rest) = take::<4>(rest)?;
+            let value = Value::Int(i32::from_le_bytes(operand));
+            Some((Expr::Literal(value), rest))
+        }
+        0x13 => {
+            let (operand, rest) = take::<2>(rest)?;
+            let value = values::node(u16::from_le_bytes(operand), scope.nodes)?;
+            Some((Expr::Literal(value), rest))
+        }
+        0x14 => {
+            let ([code], rest) = take::<1>(rest)?;
+            let value = Value::Function(Function::from_code(code)?);
+            Some((Expr::Literal(value), rest))
+        }
+        0x20 => {
+            let (condition, rest) = read_head(rest, scope)?;
+            let (yes, rest) = read_head(rest, scope)?;
+            let (no, rest) = read_head(rest, scope)?;
+            let expr = Expr::If(Box::new(condition), Box::new(yes), Box::new(no));
+            Some((expr, rest))
+        }
+        0x21 => {
+            let (function, rest) = read_head(rest, scope)?;
+            let (argument, rest) = read_head(rest, scope)?;
+            Some((Expr::Apply(Box::new(function), Box::new(argument)), rest))
+        }
+        0x22 => {
+            let ([attribute], rest) = take::<1>(rest)?;
+            if usize::from(attribute) >= scope.attributes.len() {
+                return None;
+            }
+            let (node, rest) = read_head(rest, scope)?;
+            let (parameter, rest) = read_head(rest, scope)?;
+            let expr = Expr::Attribute(attribute, Box::new(node), Box::new(parameter));
+            Some((expr, rest))
+        }
+        0x30 => scope.parameter.map(|_| (Expr::ThisNode, rest)),
+        0x31 => scope.parameter.map(|_| (Expr::Parameter, rest)),
+        _ => None,
+    }
+}
+
+/// The first `N` bytes, and the bytes after them.
+pub fn take<const N: usize>(bytes: &[u8]) -> Option<([u8; N], &[u8])> {
+    let front = bytes.get(..N)?;
+    Some((front.try_into().ok()?, &bytes[N..]))
+}

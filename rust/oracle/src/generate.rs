@@ -1,0 +1,153 @@
+//! Made-up cases: sheets, stores, questions and budgets, repeatable from a seed.
+
+mod draft;
+mod faults;
+mod questions;
+mod rng;
+mod sheets;
+mod stores;
+mod writer;
+
+pub use rng::Rng;
+
+use crate::ask::{ask_accepted, MOST_STEPS};
+use crate::case::{Ask, Case};
+use crate::sheet::Sheet;
+use draft::Draft;
+
+/// A question of more steps than this ends a list, for the sake of time.
+const MANY_STEPS: u64 = 100_000;
+
+/// A case.
+pub fn case(rng: &mut Rng) -> Case {
+    let draft = sheets::draft(rng);
+    let sheet = match rng.below(20) {
+        0 => faults::mangled(rng, &draft),
+        1 => faults::damaged(rng, draft.bytes()),
+        2 | 3 => faults::spoilt(rng, draft.clone()).bytes(),
+        _ => draft.bytes(),
+    };
+    match Sheet::read(&sheet) {
+        Ok(read) => accepted(rng, &draft, sheet, &read),
+        Err(_) => refused(rng, &draft, sheet),
+    }
+}
+
+/// A case whose sheet is accepted. The budgets lie around what each question takes at its place.
+fn accepted(rng: &mut Rng, draft: &Draft, sheet: Vec<u8>, read: &Sheet) -> Case {
+    let (store, kept) = stores::lent(rng, draft, read);
+    let most_asks = rng.pick(&[1, 4, 8, 8, 8, 30]);
+    let mut asks = Vec::new();
+    let mut lent = store.clone();
+    let mut lent_kept = kept;
+    let least_asks = usize::from(!rng.once_in(50));
+    for _ in 0..rng.between(least_asks, most_asks) {
+        let question = questions::question(rng, draft);
+        let mut probe = lent.clone();
+        let steps = ask_accepted(read, &mut probe, lent_kept, &question, MOST_STEPS).steps as u64;
+        let budget = budget(rng, steps);
+        let answer = ask_accepted(read, &mut lent, lent_kept, &question, budget);
+        lent_kept = answer.kept as u64;
+        asks.push(Ask { budget, question });
+        if steps > MANY_STEPS {
+            break;
+        }
+    }
+    Case {
+        sheet,
+        store,
+        kept,
+        asks,
+    }
+}
+
+/// A case whose sheet is refused.
+fn refused(rng: &mut Rng, draft: &Draft, sheet: Vec<u8>) -> Case {
+    let store: Vec<u8> = (0..rng.below(60)).map(|_| rng.byte()).collect();
+    let kept = rng.pick(&[0, 0, 1, 2, 5, u64::MAX]);
+    let asks = (0..rng.between(1, 2))
+        .map(|_| Ask {
+            question: questions::question(rng, draft),
+            budget: budget(rng, 5),
+        })
+        .collect();
+    Case {
+        sheet,
+        store,
+        kept,
+        asks,
+    }
+}
+
+/// A budget at or around a boundary, for a question known to take `steps`.
+fn budget(rng: &mut Rng, steps: u64) -> u64 {
+    match rng.below(20) {
+        0..=2 => steps.saturating_sub(1),
+        3..=6 => steps,
+        7..=9 => steps + 1,
+        10 => rng.below(steps as usize + 1) as u64,
+        11 => rng.pick(&[0, 1, 2, 3, 63, 64, 65, 66, 127, 128]),
+        12 => rng.pick(&[MOST_STEPS + 1, MOST_STEPS + 2, 1 << 32, u64::MAX]),
+        13 => MOST_STEPS - 1,
+        _ => MOST_STEPS,
+    }
+}
+
+#[cfg(test)]
+mod tests {
+    use super::*;
+    use crate::engine::Oracle;
+
+    #[test]
+    fn a_seed_repeats_its_cases() {
+        for number in 0..40 {
+            let one = case(&mut Rng::new(7, number));
+            let other = case(&mut Rng::new(7, number));
+            assert_eq!(one, other);
+        }
+        assert_ne!(case(&mut Rng::new(7, 0)), case(&mut Rng::new(8, 0)));
+    }
+
+    #[test]
+    fn budgets_lie_at_the_boundaries() {
+        let mut rng = Rng::new(1, 1);
+        let drawn: Vec<u64> = (0..2_000).map(|_| budget(&mut rng, 17)).collect();
+        for budget in [0, 16, 17, 18, 999_999, 1_000_000, 1_000_001, u64::MAX] {
+            assert!(drawn.contains(&budget), "{budget} never drawn");
+        }
+    }
+
+    #[test]
+    fn every_sheet_limit_is_met() {
+        let sheets: Vec<Vec<u8>> = (0..1_500)
+            .map(|number| case(&mut Rng::new(3, number)).sheet)
+            .collect();
+        let with = |wanted: &dyn Fn(&[u8]) -> bool| sheets.iter().any(|sheet| wanted(sheet));
+        assert!(with(
+            &|sheet| sheet.len() == 65_536 && Sheet::read(sheet).is_ok()
+        ));
+        assert!(with(&|sheet| sheet.len() == 65_537));
+        assert!(with(&|sheet| Sheet::read(sheet)
+            .is_ok_and(
+                |sheet| sheet.node_count() == 1_024 && sheet.attributes().len() == 32
+            )));
+    }
+
+    #[test]
+    fn lists_start_from_stores_of_every_sort() {
+        let cases: Vec<Case> = (0..1_500)
+            .map(|number| case(&mut Rng::new(5, number)))
+            .collect();
+        let with = |wanted: &dyn Fn(&Case) -> bool| cases.iter().any(wanted);
+        assert!(with(&|case| case.store.is_empty()));
+        assert!(with(&|case| case.store.len() == 12_288 && case.kept == 0));
+        assert!(with(&|case| case.store.len() > 12_288));
+        assert!(with(&|case| case.store.len() % 12 != 0));
+        assert!(with(&|case| case.kept > case.store.len() as u64));
+        let full = |case: &Case| {
+            let listed = case.clone().answered(&mut Oracle::default());
+            case.store.len() == 12_288 && case.kept == 0 && listed.kept == 1_024
+        };
+        assert!(with(&full));
+    }
+}

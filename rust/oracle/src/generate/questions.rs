@@ -1,0 +1,108 @@
+//! Questions, good and bad.
+
+use super::draft::{base_value, Draft};
+use super::faults::misfit;
+use super::rng::Rng;
+use super::writer::{
+    apply, attribute_of, function_types, if_then_else, literal, number, unit_of_length, Writer,
+};
+use crate::expr::LONGEST;
+use crate::sheet::MOST_ATTRIBUTES;
+use crate::values::{Base, Type, Value};
+
+/// A question, refused once in six or so.
+pub fn question(rng: &mut Rng, draft: &Draft) -> Vec<u8> {
+    let attributes = draft.attributes.len().min(MOST_ATTRIBUTES);
+    let pairs = attributes > 0 && !draft.nodes.is_empty();
+    let mut writer = Writer {
+        rng,
+        draft,
+        parameter: None,
+        below: attributes,
+    };
+    match writer.rng.below(12) {
+        0 | 1 => refused(&mut writer),
+        2..=5 if pairs => {
+            let attribute = writer.rng.below(attributes) as u8;
+            occurrence(&mut writer, attribute)
+        }
+        6..=8 if pairs => {
+            let attribute = writer.rng.below(attributes) as u8;
+            two_occurrences(&mut writer, attribute)
+        }
+        _ => {
+            let base = writer.rng.pick(&Base::ALL);
+            let room = writer.rng.pick(&[1, 10, 20, 40, 80, LONGEST]);
+            writer.expr(&Type::Base(base), room)
+        }
+    }
+}
+
+/// An attribute of a node, the first and the last more often than the others.
+fn occurrence(writer: &mut Writer, attribute: u8) -> Vec<u8> {
+    let nodes = writer.draft.nodes.len();
+    let node = match writer.rng.below(12) {
+        0 => None,
+        1 | 2 => Some(0),
+        3..=5 => Some(nodes as u16 - 1),
+        _ => Some(writer.rng.below(nodes) as u16),
+    };
+    let parameter = match writer.draft.attributes[usize::from(attribute)].parameter {
+        Base::Int if writer.rng.once_in(2) => {
+            let around = [0, 1, 5, 8, 10, 12, 14, 17, 30, 61, 62, 63, 64, 65, 100, 400];
+            number(writer.rng.pick(&around))
+        }
+        base => literal(base_value(writer.rng, base, nodes)),
+    };
+    attribute_of(attribute, &literal(Value::Node(node)), &parameter)
+}
+
+fn two_occurrences(writer: &mut Writer, attribute: u8) -> Vec<u8> {
+    let one = occurrence(writer, attribute);
+    let other = occurrence(writer, attribute);
+    match writer.draft.attributes[usize::from(attribute)].result {
+        Base::Unit => if_then_else(&[0x11, 0], &one, &other),
+        Base::Bool => if_then_else(&one, &other, &one),
+        Base::Int => apply(writer.rng.pick(&[0, 1, 4, 5]), &[&one, &other]),
+        Base::Node => apply(2, &[&one, &other]),
+    }
+}
+
+/// A question that 12 or 13 holds of, most of the time.
+fn refused(writer: &mut Writer) -> Vec<u8> {
+    let base = writer.rng.pick(&Base::ALL);
+    let mut good = writer.expr(&Type::Base(base), 30);
+    match writer.rng.below(10) {
+        0 => Vec::new(),
+        1 => unit_of_length(LONGEST + writer.rng.below(3)),
+        2 => {
+            let head = writer.rng.pick(&[0x20, 0x21, 0x30, 0x31, 0x5A]);
+            vec![head; writer.rng.between(1, 300)]
+        }
+        3 => {
+            good.push(writer.rng.byte());
+            good
+        }
+        4 => {
+            good.truncate(writer.rng.below(good.len()));
+            good
+        }
+        5 => {
+            let at = writer.rng.below(good.len());
+            good[at] = writer.rng.byte();
+            good
+        }
+        6 => misfit(writer),
+        7 => {
+            let place = writer.rng.below(7);
+            writer.expr(&function_types()[place], 20)
+        }
+        8 => {
+            let undeclared = (writer.draft.nodes.len() as u16).to_le_bytes();
+            vec![0x13, undeclared[0], undeclared[1]]
+        }
+        _ => (0..writer.rng.between(1, 30))
+            .map(|_| writer.rng.byte())
+            .collect(),
+    }
+}

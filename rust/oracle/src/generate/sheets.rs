@@ -1,0 +1,359 @@
+//! Sheets by family.
+
+use super::draft::{base_value, int, Draft};
+use super::rng::Rng;
+use super::writer::{
+    apply, attribute_of, if_then_else, literal, number, unit_of_length, wrapped, Writer,
+};
+use crate::expr::LONGEST;
+use crate::sheet::{LONGEST_SHEET, MOST_ATTRIBUTES, MOST_NODES};
+use crate::values::{Base, Type, Value};
+
+/// A sheet of some family. Nearly all are accepted.
+pub fn draft(rng: &mut Rng) -> Draft {
+    match rng.below(40) {
+        0..=13 => random_sheet(rng, false),
+        14..=20 => random_sheet(rng, true),
+        21..=25 => chain(rng),
+        26..=28 => countdown(rng),
+        29..=31 => circle(rng),
+        32..=35 => hostile(rng),
+        36 | 37 => tree(rng),
+        38 => large(rng),
+        _ => Draft::default(),
+    }
+}
+
+/// Random attributes, nodes, figures and rules. Without circles, a rule names only attributes declared before its own.
+fn random_sheet(rng: &mut Rng, circles: bool) -> Draft {
+    let mut draft = Draft::default();
+    for _ in 0..rng.between(1, 9) {
+        let result = rng.pick(&Base::ALL);
+        let parameter = rng.pick(&[
+            Base::Unit,
+            Base::Unit,
+            Base::Unit,
+            Base::Bool,
+            Base::Int,
+            Base::Node,
+        ]);
+        draft.attribute(result, parameter);
+    }
+    let kinds = rng.between(1, 3) as u8;
+    let least = usize::from(!rng.once_in(12));
+    for _ in 0..rng.between(least, 10) {
+        let kind = 5 * rng.below(usize::from(kinds)) as u8;
+        draft.node(kind);
+    }
+    for kind in 0..kinds {
+        for attribute in 0..draft.attributes.len() {
+            if rng.once_in(3) {
+                continue;
+            }
+            let declared = draft.attributes[attribute];
+            let room = rng.pick(&[30, 30, 30, 100, 100, LONGEST]);
+            let mut writer = Writer {
+                rng,
+                draft: &draft,
+                parameter: Some(declared.parameter),
+                below: if circles { usize::MAX } else { attribute },
+            };
+            let expr = writer.expr(&Type::Base(declared.result), room);
+            draft.rules.push((5 * kind, attribute as u8, expr));
+        }
+    }
+    draft.complete(rng, 8);
+    draft
+}
+
+/// Sheet L's attributes, and one with a parameter, over a chain of nodes that can be longer than 64.
+fn chain(rng: &mut Rng) -> Draft {
+    let mut draft = Draft::default();
+    let up = draft.attribute(Base::Node, Base::Unit);
+    let own = draft.attribute(Base::Int, Base::Unit);
+    let dial = draft.attribute(Base::Int, Base::Unit);
+    let total = draft.attribute(Base::Int, Base::Int);
+    let length = match rng.below(3) {
+        0 => rng.between(2, 8),
+        1 => rng.between(60, 68),
+        _ => rng.between(8, 150),
+    };
+    for place in 0..length {
+        let node = draft.node(u8::from(place > 0));
+        let above = match node.checked_sub(1) {
+            Some(_) if rng.once_in(50) => Some(rng.below(length) as u16),
+            above => above,
+        };
+        let value = match place {
+            0 => 700,
+            _ if rng.once_in(40) => int(rng),
+            _ => 0,
+        };
+        draft.figures.push((node, up, Value::Node(above)));
+        draft.figures.push((node, own, Value::Int(value)));
+    }
+    let own_here = attribute_of(own, &[0x30], &[0x10]);
+    let above = attribute_of(up, &[0x30], &[0x10]);
+    let unset = apply(1, &[&own_here, &number(0)]);
+    let inherited = attribute_of(dial, &above, &[0x10]);
+    let sum = apply(rng.pick(&[4, 5]), &[&[0x31], &own_here]);
+    let further = attribute_of(total, &above, &sum);
+    draft.rules.push((0, dial, own_here.clone()));
+    draft
+        .rules
+        .push((1, dial, if_then_else(&unset, &inherited, &own_here)));
+    draft.rules.push((0, total, vec![0x31]));
+    draft
+        .rules
+        .push((1, total, apply(4, &[&number(1), &further])));
+    draft
+}
+
+/// Attributes that call themselves with smaller parameters, once or twice.
+fn countdown(rng: &mut Rng) -> Draft {
+    let mut draft = Draft::default();
+    let count = draft.attribute(Base::Int, Base::Int);
+    let odd = draft.attribute(Base::Bool, Base::Int);
+    for _ in 0..rng.between(1, 3) {
+        draft.node(0);
+    }
+    let less = |by| apply(5, &[&[0x31], &number(by)]);
+    let again = |by| attribute_of(count, &[0x30], &less(by));
+    let done = apply(0, &[&[0x31], &number(0)]);
+    let further = match rng.below(4) {
+        0 => apply(4, &[&number(1), &again(1)]),
+        1 => apply(4, &[&again(1), &again(1)]),
+        2 => apply(4, &[&again(1), &again(2)]),
+        _ => again(1),
+    };
+    let rule = if_then_else(&done, &number(1), &further);
+    draft.rules.push((0, count, rule));
+    let other = apply(3, &[&attribute_of(odd, &[0x30], &less(1))]);
+    draft
+        .rules
+        .push((0, odd, if_then_else(&done, &[0x11, 0], &other)));
+    draft
+}
+
+/// Attributes that lead back to themselves, some of them only on a condition.
+fn circle(rng: &mut Rng) -> Draft {
+    let mut draft = Draft::default();
+    let result = rng.pick(&Base::ALL);
+    let parameter = rng.pick(&Base::ALL);
+    let attributes = rng.between(1, 5) as u8;
+    for _ in 0..attributes {
+        draft.attribute(result, parameter);
+    }
+    let nodes = rng.between(1, 4);
+    for kind in 0..nodes as u8 {
+        draft.node(if rng.once_in(2) { 0 } else { kind });
+    }
+    for kind in 0..nodes as u8 {
+        for attribute in 0..attributes {
+            let node = if rng.once_in(3) {
+                literal(base_value(rng, Base::Node, nodes))
+            } else {
+                vec![0x30]
+            };
+            let around = attribute_of((attribute + 1) % attributes, &node, &[0x31]);
+            let rule = if rng.once_in(4) {
+                let end = literal(base_value(rng, result, nodes));
+                if_then_else(&apply(2, &[&[0x30], &node]), &around, &end)
+            } else {
+                around
+            };
+            draft.rules.push((kind, attribute, rule));
+        }
+    }
+    draft.complete(rng, 12);
+    draft
+}
+
+/// The longest rules, the deepest nesting and the widest fan-out, over a chain of nodes.
+fn hostile(rng: &mut Rng) -> Draft {
+    let mut draft = Draft::default();
+    let next = draft.attribute(Base::Node, Base::Unit);
+    let deep = draft.attribute(Base::Bool, Base::Bool);
+    let walk = draft.attribute(Base::Node, Base::Node);
+    let wide = draft.attribute(Base::Int, Base::Int);
+    let idle = draft.attribute(Base::Unit, Base::Bool);
+    let nodes: u16 = rng.pick(&[2, 5, 62, 63, 64, 65, 66, 100]);
+    for place in 0..nodes {
+        let last = place + 1 == nodes;
+        let node = draft.node(u8::from(last));
+        let following = if last { place } else { place + 1 };
+        draft
+            .figures
+            .push((node, next, Value::Node(Some(following))));
+    }
+    let following = attribute_of(next, &[0x30], &[0x10]);
+    let onward = |attribute| attribute_of(attribute, &following, &[0x31]);
+    let nested = match rng.below(3) {
+        0 => wrapped(onward(deep), |inner| apply(3, &[inner])),
+        1 => wrapped(onward(deep), |inner| if_then_else(inner, &[0x31], &[0x31])),
+        _ => wrapped(onward(deep), |inner| if_then_else(&[0x31], &[0x31], inner)),
+    };
+    let walked = match rng.below(3) {
+        0 => wrapped(onward(walk), |inner| attribute_of(next, inner, &[0x10])),
+        1 => wrapped(vec![0x31], |inner| attribute_of(walk, &following, inner)),
+        _ => wrapped(onward(walk), |inner| attribute_of(walk, inner, &[0x31])),
+    };
+    let part = match rng.below(4) {
+        0 => onward(wide),
+        1 => attribute_of(wide, &following, &apply(5, &[&[0x31], &number(1)])),
+        2 => number(int(rng)),
+        _ => vec![0x31],
+    };
+    let fanned = wrapped(onward(wide), |inner| apply(4, &[&part, inner]));
+    let rules = [
+        (deep, nested, 0x31),
+        (walk, walked, 0x31),
+        (wide, fanned, 0x31),
+        (idle, unit_of_length(LONGEST), 0x10),
+    ];
+    for (attribute, rule, leaf) in rules {
+        // Seldom, the last node's rule leads back to itself.
+        let end = if rng.once_in(12) {
+            rule.clone()
+        } else {
+            vec![leaf]
+        };
+        draft.rules.push((0, attribute, rule));
+        draft.rules.push((1, attribute, end));
+    }
+    draft
+}
+
+/// The example of document 001, figure 3, over a binary tree.
+fn tree(rng: &mut Rng) -> Draft {
+    let mut draft = Draft::default();
+    let [left, right] = [0; 2].map(|_| draft.attribute(Base::Node, Base::Unit));
+    let value = draft.attribute(Base::Int, Base::Unit);
+    let least = draft.attribute(Base::Node, Base::Unit);
+    let sum = draft.attribute(Base::Int, Base::Int);
+    let nodes = rng.pick(&[3, 31, 255, 600, MOST_NODES - 1]);
+    for place in 0..nodes {
+        let inner = 2 * place + 2 < nodes;
+        let node = draft.node(u8::from(inner));
+        if inner {
+            for (side, below) in [(left, 2 * node + 1), (right, 2 * node + 2)] {
+                draft.figures.push((node, side, Value::Node(Some(below))));
+            }
+        }
+        draft.figures.push((node, value, Value::Int(int(rng))));
+    }
+    for side in [left, right] {
+        draft.rules.push((0, side, literal(Value::Node(None))));
+    }
+    let side = |side| attribute_of(side, &[0x30], &[0x10]);
+    let least_of = |from| attribute_of(least, &side(from), &[0x10]);
+    let value_of = |from| attribute_of(value, &least_of(from), &[0x10]);
+    let smaller = apply(0, &[&value_of(left), &value_of(right)]);
+    let rule = if_then_else(&smaller, &least_of(left), &least_of(right));
+    draft.rules.push((0, least, vec![0x30]));
+    draft.rules.push((1, least, rule));
+    let sum_of = |from| attribute_of(sum, &side(from), &[0x31]);
+    let own = apply(4, &[&[0x31], &attribute_of(value, &[0x30], &[0x10])]);
+    draft.rules.push((0, sum, own));
+    draft
+        .rules
+        .push((1, sum, apply(4, &[&sum_of(left), &sum_of(right)])));
+    draft
+}
+
+/// A sheet at or near its limits of attributes, nodes and bytes, or one byte beyond.
+fn large(rng: &mut Rng) -> Draft {
+    let mut draft = Draft::default();
+    let idle = draft.attribute(Base::Unit, Base::Bool);
+    for _ in 1..MOST_ATTRIBUTES - rng.below(2) {
+        let (result, parameter) = (rng.pick(&Base::ALL), rng.pick(&Base::ALL));
+        draft.attribute(result, parameter);
+    }
+    for _ in 0..MOST_NODES - rng.below(2) {
+        let kind = rng.below(16) as u8;
+        draft.node(kind);
+    }
+    for kind in 0..16 {
+        for attribute in 1..draft.attributes.len() {
+            let declared = draft.attributes[attribute];
+            let room = rng.between(3, 60);
+            let mut writer = Writer {
+                rng,
+                draft: &draft,
+                parameter: Some(declared.parameter),
+                below: attribute,
+            };
+            let expr = writer.expr(&Type::Base(declared.result), room);
+            draft.rules.push((kind, attribute as u8, expr));
+        }
+        draft.rules.push((kind, idle, unit_of_length(LONGEST)));
+    }
+    let length = rng.pick(&[
+        LONGEST_SHEET - 1,
+        LONGEST_SHEET,
+        LONGEST_SHEET,
+        LONGEST_SHEET + 1,
+    ]);
+    fill(rng, &mut draft, length);
+    draft
+}
+
+/// Adds figures up to a length in bytes, and shortens the last rule, a Unit one, to meet it.
+fn fill(rng: &mut Rng, draft: &mut Draft, length: usize) {
+    const FIGURE: usize = 8;
+    const SPARE: usize = 100;
+    let mut written = draft.bytes().len();
+    let mut pair = rng.below(99);
+    while written + FIGURE <= length + SPARE && pair / 32 < draft.nodes.len() {
+        let (node, attribute) = (pair / 32, pair % 32);
+        pair += 1 + rng.below(3);
+        if let Some(declared) = draft.attributes.get(attribute) {
+            let value = base_value(rng, declared.result, draft.nodes.len());
+            draft.figures.push((node as u16, attribute as u8, value));
+            written += FIGURE;
+        }
+    }
+    if let Some((_, _, last)) = draft.rules.last_mut() {
+        *last = unit_of_length(last.len() + length - written);
+    }
+}
+
+#[cfg(test)]
+mod tests {
+    use super::*;
+    use crate::sheet::Sheet;
+    use crate::stop::Reason;
+
+    #[test]
+    fn every_family_is_accepted() {
+        for number in 0..60 {
+            let rng = &mut Rng::new(2, number);
+            for draft in [
+                random_sheet(rng, false),
+                random_sheet(rng, true),
+                chain(rng),
+                countdown(rng),
+                circle(rng),
+                hostile(rng),
+                tree(rng),
+            ] {
+                let read = Sheet::read(&draft.bytes());
+                assert!(read.is_ok(), "{:?}", read.err());
+            }
+        }
+    }
+
+    #[test]
+    fn a_large_sheet_meets_its_length() {
+        for number in 0..12 {
+            let bytes = large(&mut Rng::new(2, number)).bytes();
+            match Sheet::read(&bytes) {
+                Ok(_) => assert!([65_535, 65_536].contains(&bytes.len())),
+                Err(stop) => {
+                    assert_eq!(stop.reason, Reason::SheetLength);
+                    assert_eq!(bytes.len(), 65_537);
+                }
+            }
+        }
+    }
+}

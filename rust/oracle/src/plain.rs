@@ -1,0 +1,154 @@
+//! Document 01, "Plain Saiga": no store, no budget and no limit on depth.
+//!
+//! The state is one expression and a count. The expression is kept as the part being stepped and what stands around it,
+//! from the outside in. σ(n, a, v) is its rule's expression with n and v beside it, put for 0x30 and 0x31 where these
+//! are reached.
+
+use crate::expr::Expr;
+use crate::sheet::{Definition, Sheet};
+use crate::values::Value;
+
+/// How plain Saiga ends, and the count then.
+#[derive(Clone, Copy, Debug, PartialEq, Eq)]
+pub enum Ending {
+    Value(Value, u64),
+    Null(u64),
+    /// A further step was due after as many as the caller allowed.
+    Running(u64),
+}
+
+/// An expression as it is written, with the n and v put for 0x30 and 0x31; a question has neither.
+#[derive(Clone, Copy)]
+struct Written<'a> {
+    expr: &'a Expr,
+    occurrence: Option<(Value, Value)>,
+}
+
+impl<'a> Written<'a> {
+    fn inner(self, expr: &'a Expr) -> Written<'a> {
+        Written { expr, ..self }
+    }
+}
+
+/// The part being stepped.
+enum Part<'a> {
+    Value(Value),
+    Written(Written<'a>),
+}
+
+/// What stands directly around a part: the other parts of the expression it belongs to.
+enum Around<'a> {
+    Condition {
+        yes: Written<'a>,
+        no: Written<'a>,
+    },
+    Left {
+        right: Written<'a>,
+    },
+    Right {
+        function: Value,
+    },
+    Node {
+        attribute: u8,
+        parameter: Written<'a>,
+    },
+    Parameter {
+        attribute: u8,
+        node: Value,
+    },
+}
+
+/// Runs plain Saiga on an accepted question, for at most `limit` counted steps.
+pub fn run(sheet: &Sheet, question: &Expr, limit: u64) -> Ending {
+    let mut around = Vec::new();
+    let mut count = 0;
+    let mut part = Part::Written(Written {
+        expr: question,
+        occurrence: None,
+    });
+    loop {
+        let value = match part {
+            Part::Value(value) => value,
+            Part::Written(written) => descend(written, &mut around),
+        };
+        let reduct = match around.pop() {
+            None => return Ending::Value(value, count),
+            Some(Around::Left { right }) => {
+                around.push(Around::Right { function: value });
+                part = Part::Written(right);
+                continue;
+            }
+            Some(Around::Node {
+                attribute,
+                parameter,
+            }) => {
+                around.push(Around::Parameter {
+                    attribute,
+                    node: value,
+                });
+                part = Part::Written(parameter);
+                continue;
+            }
+            Some(Around::Parameter {
+                node: Value::Node(None),
+                ..
+            }) => return Ending::Null(count),
+            Some(_) if count == limit => return Ending::Running(count),
+            Some(Around::Condition { yes, no }) => match value {
+                Value::Bool(true) => Part::Written(yes),
+                Value::Bool(false) => Part::Written(no),
+                other => unreachable!("ill typed: IF {other:?}"),
+            },
+            Some(Around::Right { function }) => Part::Value(function.apply(value)),
+            Some(Around::Parameter { attribute, node }) => context(sheet, node, attribute, value),
+        };
+        count += 1;
+        part = reduct;
+    }
+}
+
+/// Goes into an expression, along the parts that are stepped first, until there is a value.
+fn descend<'a>(mut written: Written<'a>, around: &mut Vec<Around<'a>>) -> Value {
+    loop {
+        let first = match written.expr {
+            Expr::Literal(value) => return *value,
+            Expr::ThisNode => return written.occurrence.expect("0x30 stands in a rule").0,
+            Expr::Parameter => return written.occurrence.expect("0x31 stands in a rule").1,
+            Expr::If(condition, yes, no) => {
+                around.push(Around::Condition {
+                    yes: written.inner(yes),
+                    no: written.inner(no),
+                });
+                condition
+            }
+            Expr::Apply(left, right) => {
+                around.push(Around::Left {
+                    right: written.inner(right),
+                });
+                left
+            }
+            Expr::Attribute(attribute, node, parameter) => {
+                around.push(Around::Node {
+                    attribute: *attribute,
+                    parameter: written.inner(parameter),
+                });
+                node
+            }
+        };
+        written = written.inner(first);
+    }
+}
+
+/// σ(n, a, v).
+fn context(sheet: &Sheet, node: Value, attribute: u8, parameter: Value) -> Part<'_> {
+    let Value::Node(Some(number)) = node else {
+        unreachable!("ill typed: attribute of {node:?}");
+    };
+    match sheet.definition(number, attribute) {
+        Definition::Figure(value) => Part::Value(value),
+        Definition::Rule(expr) => Part::Written(Written {
+            expr,
+            occurrence: Some((node, parameter)),
+        }),
+    }
+}

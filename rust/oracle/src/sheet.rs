@@ -1,0 +1,239 @@
+//! Document 01, "The sheet", and stops 1 to 8.
+
+use crate::expr::{Attribute, Expr, Scope, LONGEST};
+use crate::stop::{Reason, Stop};
+use crate::values::{Base, Type, Value};
+
+/// The greatest length of a sheet in bytes.
+pub const LONGEST_SHEET: usize = 65_536;
+pub const MOST_ATTRIBUTES: usize = 32;
+pub const MOST_NODES: usize = 1_024;
+const KINDS: u8 = 16;
+
+/// An accepted sheet, or what has been read of one.
+#[derive(Debug, Default)]
+pub struct Sheet {
+    attributes: Vec<Attribute>,
+    /// The kind of each node.
+    nodes: Vec<u8>,
+    /// By node and attribute, as `pair` numbers them.
+    figures: Vec<Option<Value>>,
+    /// By kind and attribute, likewise.
+    rules: Vec<Option<Expr>>,
+    deepest_rule: usize,
+}
+
+/// What σ hands on for a declared pair.
+#[derive(Clone, Copy, Debug)]
+pub enum Definition<'a> {
+    Figure(Value),
+    Rule(&'a Expr),
+}
+
+/// The kinds of commands in their order.
+#[derive(Clone, Copy, PartialEq, Eq, PartialOrd, Ord)]
+enum Part {
+    Attributes,
+    Nodes,
+    Figures,
+    Rules,
+    End,
+}
+
+impl Part {
+    fn from_command(command: u8) -> Option<Part> {
+        match command {
+            0x41 => Some(Part::Attributes),
+            0x4E => Some(Part::Nodes),
+            0x56 => Some(Part::Figures),
+            0x52 => Some(Part::Rules),
+            0x5A => Some(Part::End),
+            _ => None,
+        }
+    }
+
+    /// How many operand bytes the command that stands before `rest` has; a rule's expression is among them.
+    fn operands(self, rest: &[u8]) -> Option<usize> {
+        match self {
+            Part::Attributes => Some(2),
+            Part::Nodes => Some(1),
+            Part::Figures => Some(7),
+            Part::Rules => {
+                let length = rest.get(2..4)?;
+                Some(4 + usize::from(u16::from_le_bytes([length[0], length[1]])))
+            }
+            Part::End => Some(0),
+        }
+    }
+}
+
+impl Sheet {
+    /// The sheet that `bytes` write, or the first of stops 1 to 8.
+    pub fn read(bytes: &[u8]) -> Result<Sheet, Stop> {
+        if bytes.len() > LONGEST_SHEET {
+            return Err(Stop::of(Reason::SheetLength));
+        }
+        let mut sheet = Sheet::default();
+        sheet
+            .rules
+            .resize(usize::from(KINDS) * MOST_ATTRIBUTES, None);
+        let mut at = 0;
+        let mut reached = Part::Attributes;
+        while reached != Part::End {
+            // Where the end is lacking, `at` is the sheet's length.
+            let out_of_place = Stop::at(Reason::Command, at);
+            let (command, rest) = bytes[at..].split_first().ok_or(out_of_place)?;
+            let part = Part::from_command(*command).ok_or(out_of_place)?;
+            if part < reached {
+                return Err(out_of_place);
+            }
+            let width = part.operands(rest).ok_or(out_of_place)?;
+            let operands = rest.get(..width).ok_or(out_of_place)?;
+            sheet
+                .command(part, operands)
+                .map_err(|reason| Stop::at(reason, at))?;
+            reached = part;
+            at += 1 + width;
+        }
+        if at < bytes.len() {
+            return Err(Stop::at(Reason::Command, at));
+        }
+        match sheet.first_undefined() {
+            Some(pair) => Err(Stop::at(Reason::NoDefinition, pair)),
+            None => Ok(sheet),
+        }
+    }
+
+    /// Takes in one whole command: stops 3 to 7.
+    fn command(&mut self, part: Part, operands: &[u8]) -> Result<(), Reason> {
+        match part {
+            Part::Attributes => self.attribute(operands[0], operands[1]),
+            Part::Nodes => self.node(operands[0]),
+            Part::Figures => {
+                let node = u16::from_le_bytes([operands[0], operands[1]]);
+                let value = [operands[3], operands[4], operands[5], operands[6]];
+                self.figure(node, operands[2], value)
+            }
+            Part::Rules => self.rule(operands[0], operands[1], &operands[4..]),
+            Part::End => Ok(()),
+        }
+    }
+
+    fn attribute(&mut self, result: u8, parameter: u8) -> Result<(), Reason> {
+        if self.attributes.len() == MOST_ATTRIBUTES {
+            return Err(Reason::TooMany);
+        }
+        let result = Base::from_code(result).ok_or(Reason::Operand)?;
+        let parameter = Base::from_code(parameter).ok_or(Reason::Operand)?;
+        self.attributes.push(Attribute { result, parameter });
+        Ok(())
+    }
+
+    fn node(&mut self, kind: u8) -> Result<(), Reason> {
+        if self.nodes.len() == MOST_NODES {
+            return Err(Reason::TooMany);
+        }
+        if kind >= KINDS {
+            return Err(Reason::Operand);
+        }
+        self.nodes.push(kind);
+        self.figures
+            .resize(self.nodes.len() * MOST_ATTRIBUTES, None);
+        Ok(())
+    }
+
+    fn figure(&mut self, node: u16, attribute: u8, value: [u8; 4]) -> Result<(), Reason> {
+        if usize::from(node) >= self.nodes.len() {
+            return Err(Reason::Operand);
+        }
+        let declared = self.declared(attribute).ok_or(Reason::Operand)?;
+        let value =
+            Value::from_bytes(declared.result, value, self.nodes.len()).ok_or(Reason::Operand)?;
+        match self.figures[pair(usize::from(node), attribute)].replace(value) {
+            Some(_) => Err(Reason::SecondDefinition),
+            None => Ok(()),
+        }
+    }
+
+    fn rule(&mut self, kind: u8, attribute: u8, written: &[u8]) -> Result<(), Reason> {
+        if kind >= KINDS {
+            return Err(Reason::Operand);
+        }
+        let declared = self.declared(attribute).ok_or(Reason::Operand)?;
+        let place = pair(usize::from(kind), attribute);
+        if self.rules[place].is_some() {
+            return Err(Reason::SecondDefinition);
+        }
+        if written.is_empty() || written.len() > LONGEST {
+            return Err(Reason::RuleForm);
+        }
+        let scope = Scope {
+            parameter: Some(declared.parameter),
+            ..self.scope()
+        };
+        let expr = Expr::read(written, scope).ok_or(Reason::RuleForm)?;
+        if expr.type_of(scope) != Some(Type::Base(declared.result)) {
+            return Err(Reason::RuleType);
+        }
+        self.deepest_rule = self.deepest_rule.max(expr.depth());
+        self.rules[place] = Some(expr);
+        Ok(())
+    }
+
+    /// The number of the first pair without definition.
+    fn first_undefined(&self) -> Option<usize> {
+        let attributes = 0..self.attributes.len() as u8;
+        (0..self.nodes.len())
+            .flat_map(|node| attributes.clone().map(move |attribute| (node, attribute)))
+            .find(|(node, attribute)| self.lookup(*node, *attribute).is_none())
+            .map(|(node, attribute)| pair(node, attribute))
+    }
+
+    fn lookup(&self, node: usize, attribute: u8) -> Option<Definition<'_>> {
+        if let Some(value) = self.figures[pair(node, attribute)] {
+            return Some(Definition::Figure(value));
+        }
+        let kind = usize::from(self.nodes[node]);
+        self.rules[pair(kind, attribute)]
+            .as_ref()
+            .map(Definition::Rule)
+    }
+
+    /// The definition in force for a declared pair: the figure if there is one, else the rule.
+    pub fn definition(&self, node: u16, attribute: u8) -> Definition<'_> {
+        self.lookup(usize::from(node), attribute)
+            .expect("every pair of an accepted sheet has a definition")
+    }
+
+    /// The declaration of an attribute, where there is one.
+    pub fn declared(&self, attribute: u8) -> Option<Attribute> {
+        self.attributes.get(usize::from(attribute)).copied()
+    }
+
+    pub fn attributes(&self) -> &[Attribute] {
+        &self.attributes
+    }
+
+    pub fn node_count(&self) -> usize {
+        self.nodes.len()
+    }
+
+    /// The scope of a question.
+    pub fn scope(&self) -> Scope<'_> {
+        Scope {
+            attributes: &self.attributes,
+            nodes: self.nodes.len(),
+            parameter: None,
+        }
+    }
+
+    /// The depth of the deepest rule.
+    pub fn deepest_rule(&self) -> usize {
+        self.deepest_rule
+    }
+}
+
+/// Node × 32 + attribute, or kind × 32 + attribute.
+fn pair(row: usize, attribute: u8) -> usize {
+    row * MOST_ATTRIBUTES + usize::from(attribute)
+}

@@ -1,0 +1,103 @@
+//! The store: document 01, "The steps", with stops 9 and 10.
+
+use std::collections::HashMap;
+
+use crate::expr::take;
+use crate::sheet::Sheet;
+use crate::stop::{Reason, Stop};
+use crate::values::Value;
+
+/// The length of an entry in bytes.
+pub const ENTRY: usize = 12;
+/// The greatest capacity in entries.
+pub const MOST_ENTRIES: usize = 1_024;
+
+/// An attribute occurrence (n, a, v).
+#[derive(Clone, Copy, Debug, PartialEq, Eq, Hash)]
+pub struct Occurrence {
+    pub node: u16,
+    pub attribute: u8,
+    pub parameter: Value,
+}
+
+/// A lent store that has passed the checks, with its kept values by occurrence.
+#[derive(Debug)]
+pub struct Store<'s> {
+    bytes: &'s mut [u8],
+    kept: HashMap<Occurrence, Value>,
+}
+
+impl<'s> Store<'s> {
+    /// Checks a lent store: stops 9 and 10.
+    pub fn open(bytes: &'s mut [u8], kept: u64, sheet: &Sheet) -> Result<Store<'s>, Stop> {
+        let capacity = bytes.len() / ENTRY;
+        if !well_shaped(bytes) || kept > capacity as u64 {
+            return Err(Stop::of(Reason::StoreShape));
+        }
+        let mut values = HashMap::new();
+        let entries = bytes.chunks_exact(ENTRY).take(kept as usize);
+        for (number, entry) in entries.enumerate() {
+            let faulty = Stop::at(Reason::StoreEntry, number);
+            let (occurrence, value) = read_entry(entry, sheet).ok_or(faulty)?;
+            if values.insert(occurrence, value).is_some() {
+                return Err(faulty);
+            }
+        }
+        Ok(Store {
+            bytes,
+            kept: values,
+        })
+    }
+
+    /// The kept value of an occurrence.
+    pub fn value(&self, occurrence: &Occurrence) -> Option<Value> {
+        self.kept.get(occurrence).copied()
+    }
+
+    /// CacheWrite: appends the occurrence if it is not kept and the store is not full.
+    pub fn write(&mut self, occurrence: Occurrence, value: Value) {
+        let at = self.kept.len() * ENTRY;
+        if at == self.bytes.len() || self.kept.contains_key(&occurrence) {
+            return;
+        }
+        let entry = &mut self.bytes[at..at + ENTRY];
+        entry[..2].copy_from_slice(&occurrence.node.to_le_bytes());
+        entry[2] = occurrence.attribute;
+        entry[3] = 0;
+        entry[4..8].copy_from_slice(&occurrence.parameter.to_bytes());
+        entry[8..].copy_from_slice(&value.to_bytes());
+        self.kept.insert(occurrence, value);
+    }
+
+    /// The number kept.
+    pub fn kept(&self) -> usize {
+        self.kept.len()
+    }
+}
+
+/// Whether a store's length is that of a capacity from 0 to the most.
+pub fn well_shaped(store: &[u8]) -> bool {
+    store.len().is_multiple_of(ENTRY) && store.len() <= ENTRY * MOST_ENTRIES
+}
+
+/// The occurrence and the value of a kept entry, if it is a good one.
+fn read_entry(entry: &[u8], sheet: &Sheet) -> Option<(Occurrence, Value)> {
+    let (node, rest) = take::<2>(entry)?;
+    let ([attribute, zero], rest) = take::<2>(rest)?;
+    let (parameter, rest) = take::<4>(rest)?;
+    let (value, _) = take::<4>(rest)?;
+    let nodes = sheet.node_count();
+    let node = u16::from_le_bytes(node);
+    if usize::from(node) >= nodes || zero != 0 {
+        return None;
+    }
+    let declared = sheet.declared(attribute)?;
+    let parameter = Value::from_bytes(declared.parameter, parameter, nodes)?;
+    let value = Value::from_bytes(declared.result, value, nodes)?;
+    let occurrence = Occurrence {
+        node,
+        attribute,
+        parameter,
+    };
+    Some((occurrence, value))
+}

@@ -1,0 +1,194 @@
+//! Document 01, "Values and functions".
+
+/// Null in the four bytes of a Node, in the two of a Node literal, and in an answer.
+pub const NULL: u16 = 65_535;
+
+/// The base types.
+#[derive(Clone, Copy, Debug, PartialEq, Eq, Hash)]
+pub enum Base {
+    Unit,
+    Bool,
+    Int,
+    Node,
+}
+
+impl Base {
+    pub const ALL: [Base; 4] = [Base::Unit, Base::Bool, Base::Int, Base::Node];
+
+    pub fn from_code(code: u8) -> Option<Base> {
+        Base::ALL.get(usize::from(code)).copied()
+    }
+
+    pub fn code(self) -> u8 {
+        match self {
+            Base::Unit => 0,
+            Base::Bool => 1,
+            Base::Int => 2,
+            Base::Node => 3,
+        }
+    }
+}
+
+/// The type of an expression: a base type, or a function from a base type.
+#[derive(Clone, Debug, PartialEq, Eq)]
+pub enum Type {
+    Base(Base),
+    Function(Base, Box<Type>),
+}
+
+impl Type {
+    /// The type of a function that takes `arguments` one after the other.
+    pub fn function(arguments: &[Base], result: Base) -> Type {
+        arguments
+            .iter()
+            .rev()
+            .fold(Type::Base(result), |inner, argument| {
+                Type::Function(*argument, Box::new(inner))
+            })
+    }
+}
+
+/// The functions by name.
+#[derive(Clone, Copy, Debug, PartialEq, Eq, Hash)]
+pub enum Function {
+    Le,
+    EqualInt,
+    EqualNode,
+    Not,
+    Add,
+    Subtract,
+}
+
+impl Function {
+    pub const ALL: [Function; 6] = [
+        Function::Le,
+        Function::EqualInt,
+        Function::EqualNode,
+        Function::Not,
+        Function::Add,
+        Function::Subtract,
+    ];
+
+    pub fn from_code(code: u8) -> Option<Function> {
+        Function::ALL.get(usize::from(code)).copied()
+    }
+
+    pub fn type_of(self) -> Type {
+        match self {
+            Function::Le | Function::EqualInt => {
+                Type::function(&[Base::Int, Base::Int], Base::Bool)
+            }
+            Function::EqualNode => Type::function(&[Base::Node, Base::Node], Base::Bool),
+            Function::Not => Type::function(&[Base::Bool], Base::Bool),
+            Function::Add | Function::Subtract => {
+                Type::function(&[Base::Int, Base::Int], Base::Int)
+            }
+        }
+    }
+}
+
+/// A function of two arguments holding its first.
+#[derive(Clone, Copy, Debug, PartialEq, Eq, Hash)]
+pub enum Holding {
+    Le(i32),
+    EqualInt(i32),
+    EqualNode(Option<u16>),
+    Add(i32),
+    Subtract(i32),
+}
+
+/// A value. A Node is `None` for null.
+#[derive(Clone, Copy, Debug, PartialEq, Eq, Hash)]
+pub enum Value {
+    Unit,
+    Bool(bool),
+    Int(i32),
+    Node(Option<u16>),
+    Function(Function),
+    Holding(Holding),
+}
+
+impl Value {
+    /// The result of giving `argument` to this function, which typing has found fit for it.
+    pub fn apply(self, argument: Value) -> Value {
+        match (self, argument) {
+            (Value::Function(Function::Le), Value::Int(x)) => Value::Holding(Holding::Le(x)),
+            (Value::Function(Function::EqualInt), Value::Int(x)) => {
+                Value::Holding(Holding::EqualInt(x))
+            }
+            (Value::Function(Function::EqualNode), Value::Node(x)) => {
+                Value::Holding(Holding::EqualNode(x))
+            }
+            (Value::Function(Function::Not), Value::Bool(x)) => Value::Bool(!x),
+            (Value::Function(Function::Add), Value::Int(x)) => Value::Holding(Holding::Add(x)),
+            (Value::Function(Function::Subtract), Value::Int(x)) => {
+                Value::Holding(Holding::Subtract(x))
+            }
+            (Value::Holding(Holding::Le(x)), Value::Int(y)) => Value::Bool(x <= y),
+            (Value::Holding(Holding::EqualInt(x)), Value::Int(y)) => Value::Bool(x == y),
+            (Value::Holding(Holding::EqualNode(x)), Value::Node(y)) => Value::Bool(x == y),
+            (Value::Holding(Holding::Add(x)), Value::Int(y)) => {
+                Value::Int(held(i64::from(x) + i64::from(y)))
+            }
+            (Value::Holding(Holding::Subtract(x)), Value::Int(y)) => {
+                Value::Int(held(i64::from(x) - i64::from(y)))
+            }
+            (function, argument) => unreachable!("ill typed: {function:?} of {argument:?}"),
+        }
+    }
+
+    /// The base type of a base value; `None` for a function.
+    pub fn base(self) -> Option<Base> {
+        match self {
+            Value::Unit => Some(Base::Unit),
+            Value::Bool(_) => Some(Base::Bool),
+            Value::Int(_) => Some(Base::Int),
+            Value::Node(_) => Some(Base::Node),
+            Value::Function(_) | Value::Holding(_) => None,
+        }
+    }
+
+    /// The value of type `base` that four bytes stand for, on a sheet of `nodes` nodes.
+    pub fn from_bytes(base: Base, bytes: [u8; 4], nodes: usize) -> Option<Value> {
+        let word = u32::from_le_bytes(bytes);
+        match base {
+            Base::Unit => (word == 0).then_some(Value::Unit),
+            Base::Bool => (word <= 1).then_some(Value::Bool(word == 1)),
+            Base::Int => Some(Value::Int(i32::from_le_bytes(bytes))),
+            Base::Node => node(u16::try_from(word).ok()?, nodes),
+        }
+    }
+
+    /// The four bytes of a base value.
+    pub fn to_bytes(self) -> [u8; 4] {
+        match self {
+            Value::Unit => [0; 4],
+            Value::Bool(x) => u32::from(x).to_le_bytes(),
+            Value::Int(x) => x.to_le_bytes(),
+            Value::Node(x) => u32::from(x.unwrap_or(NULL)).to_le_bytes(),
+            Value::Function(_) | Value::Holding(_) => unreachable!("a function has no bytes"),
+        }
+    }
+
+    /// A base value as an answer gives it.
+    pub fn number(self) -> i64 {
+        match self {
+            Value::Int(x) => i64::from(x),
+            other => i64::from(u32::from_le_bytes(other.to_bytes())),
+        }
+    }
+}
+
+/// The Node value written as `number`, on a sheet of `nodes` nodes.
+pub fn node(number: u16, nodes: usize) -> Option<Value> {
+    match number {
+        NULL => Some(Value::Node(None)),
+        declared if usize::from(declared) < nodes => Some(Value::Node(Some(declared))),
+        _ => None,
+    }
+}
+
+/// An Int, held at the end that it lies beyond.
+fn held(exact: i64) -> i32 {
+    exact.clamp(i64::from(i32::MIN), i64::from(i32::MAX)) as i32
+}

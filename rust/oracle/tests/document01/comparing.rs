@@ -1,0 +1,286 @@
+//! Engines with planted faults, and which check finds them.
+
+use std::slice::from_ref;
+use std::time::Duration;
+
+use crate::common::*;
+use oracle::case::{read_lists, Ask, Case};
+use oracle::shrink::shrink;
+use oracle::soak::soak;
+use oracle::{ask, compare, demand3, Answer, Oracle};
+
+const MOST: u64 = 1_000_000;
+
+fn case(capacity: usize, questions: &[Vec<u8>]) -> Case {
+    Case {
+        sheet: sheet_l(),
+        store: vec![0; capacity * 12],
+        kept: 0,
+        asks: questions
+            .iter()
+            .map(|question| Ask {
+                budget: MOST,
+                question: question.clone(),
+            })
+            .collect(),
+    }
+}
+
+/// D, D, node 2's dial, L10, a refused question, Int 5.
+fn l_case(capacity: usize) -> Case {
+    let dial = of(&node_literal(2), DIAL, &UNIT);
+    case(capacity, &[d(), d(), dial, l10(), vec![0x30], int(5)])
+}
+
+type Asked<'a> = (&'a [u8], &'a mut [u8], u64, &'a [u8], u64);
+
+/// Whether `compare` and `demand3` let an engine by on sheet L.
+fn let_by(engine: impl Fn(Asked) -> Answer) -> (bool, Option<&'static str>) {
+    let mut engine = |sheet: &[u8], store: &mut [u8], kept: u64, question: &[u8], budget: u64| {
+        engine((sheet, store, kept, question, budget))
+    };
+    let case = l_case(5);
+    let compared = compare(&mut engine, &case).is_ok();
+    let violated = demand3(&mut engine, &case).err();
+    (compared, violated.map(|violation| violation.part))
+}
+
+#[test]
+fn the_oracle_passes_and_is_counted() {
+    let case = l_case(5);
+    let counts = compare(&mut Oracle::default(), &case).expect("no mismatch");
+    let answers: Vec<(i64, u64)> = counts.answers.into_iter().collect();
+    assert_eq!(answers, [(0, 4), (12, 1), (14, 1)]);
+    let counts = demand3(&mut Oracle::default(), &case).expect("no violation");
+    for part in ['a', 'b', 'c', 'd'] {
+        assert!(counts.checks[&*format!("demand 3 ({part})")] > 5, "{part}");
+    }
+    assert_eq!(counts.unmet().len(), 14);
+}
+
+#[test]
+fn an_engine_that_always_says_700() {
+    let (compared, violated) = let_by(|_| answer([0, 0, 2, 700, 8, 5]));
+    assert_eq!((compared, violated), (false, Some("demand 3 (b)")));
+}
+
+#[test]
+fn an_engine_that_turns_every_question_down() {
+    let (compared, violated) = let_by(|(_, _, kept, _, _)| answer([12, 0, 0, 0, 0, kept as i64]));
+    assert_eq!((compared, violated), (false, Some("demand 3 (a)")));
+}
+
+#[test]
+fn an_engine_that_never_writes_its_store() {
+    let (compared, violated) = let_by(|(sheet, store, kept, question, budget)| {
+        let given = ask(sheet, &mut store.to_vec(), kept, question, budget);
+        Answer {
+            kept: kept as i64,
+            ..given
+        }
+    });
+    assert_eq!((compared, violated), (false, None));
+}
+
+#[test]
+fn an_engine_with_an_invented_step_count() {
+    let (compared, violated) = let_by(|(sheet, store, kept, question, budget)| {
+        let given = ask(sheet, store, kept, question, budget);
+        Answer {
+            steps: given.steps + 1,
+            ..given
+        }
+    });
+    assert_eq!((compared, violated), (false, Some("demand 3 (a)")));
+}
+
+#[test]
+fn engines_that_say_spent_or_depth_on_arrival() {
+    let (compared, violated) = let_by(|(_, _, kept, _, _)| answer([15, 0, 0, 0, 0, kept as i64]));
+    assert_eq!((compared, violated), (false, Some("demand 3 (a)")));
+    let (compared, violated) = let_by(|(_, _, kept, _, _)| answer([16, 0, 0, 0, 0, kept as i64]));
+    assert_eq!((compared, violated), (false, None));
+}
+
+#[test]
+fn an_engine_that_keeps_wrong_values() {
+    let (compared, violated) = let_by(|(sheet, store, kept, question, budget)| {
+        let given = ask(sheet, store, kept, question, budget);
+        if given.kept == 5 {
+            store[4 * 12 + 8] ^= 1;
+        }
+        given
+    });
+    assert_eq!((compared, violated), (false, Some("demand 3 (b)")));
+}
+
+#[test]
+fn an_engine_that_scribbles_past_the_kept_entries() {
+    let scribbling = |(sheet, store, kept, question, budget): Asked| {
+        let given = ask(sheet, store, kept, question, budget);
+        if let Some(last) = store.last_mut() {
+            *last = budget as u8;
+        }
+        given
+    };
+    assert_eq!(let_by(scribbling), (false, Some("demand 3 (d)")));
+}
+
+#[test]
+fn an_engine_that_uses_only_small_stores() {
+    let (compared, violated) = let_by(|(sheet, store, kept, question, budget)| {
+        if store.len() > 60 {
+            let given = ask(sheet, &mut [], 0, question, budget);
+            return Answer { kept: 0, ..given };
+        }
+        ask(sheet, store, kept, question, budget)
+    });
+    assert_eq!((compared, violated), (true, Some("demand 3 (c)")));
+}
+
+#[test]
+fn an_engine_that_goes_beyond_plain_saiga() {
+    // An attribute defined as itself, answered with 0 where depth is due.
+    let mut engine = |sheet: &[u8], store: &mut [u8], kept: u64, question: &[u8], budget: u64| {
+        let given = ask(sheet, store, kept, question, budget);
+        match given.number {
+            16 => answer([0, 0, 2, 0, given.steps, given.kept]),
+            _ => given,
+        }
+    };
+    let circle = Case {
+        sheet: sheet_l12(),
+        ..case(0, &[of(&node_literal(0), 0, &UNIT)])
+    };
+    let violation = demand3(&mut engine, &circle).expect_err("plain Saiga never ends");
+    assert_eq!((violation.part, violation.question), ("capacity 0", 0));
+}
+
+#[test]
+fn with_capacity_0_the_steps_are_plain_saigas_own() {
+    // Null is met before the parameter is stepped: fewer steps than plain Saiga's 1, which demand 3 lets by.
+    let hasty = |sheet: &[u8], store: &mut [u8], kept: u64, question: &[u8], budget: u64| {
+        let given = ask(sheet, store, kept, question, budget);
+        match given.number {
+            14 | 15 => answer([14, 0, 0, 0, 0, given.kept]),
+            _ => given,
+        }
+    };
+    let question = of(&NULL, OWN, &if_else(&TRUE, &UNIT, &UNIT));
+    let with_capacity =
+        |capacity| demand3(&mut hasty.clone(), &case(capacity, from_ref(&question)));
+    assert!(with_capacity(1).is_ok());
+    let violation = with_capacity(0).expect_err("a step is missing");
+    assert_eq!(violation.part, "capacity 0");
+}
+
+#[test]
+fn part_d_is_tried_from_wrong_stores_and_refused_sheets_too() {
+    let by_budget = |sheet: &[u8], store: &mut [u8], kept: u64, question: &[u8], budget: u64| {
+        let given = ask(sheet, store, kept, question, budget);
+        Answer {
+            value: given.value + i64::from(budget > 77),
+            ..given
+        }
+    };
+    let mut wrong = case(1, &[d()]);
+    wrong.store = entry(1, DIAL, 0, 5);
+    wrong.kept = 1;
+    let violation = demand3(&mut by_budget.clone(), &wrong).expect_err("the budget shows");
+    assert_eq!(violation.part, "demand 3 (d)");
+    let mut refused = case(0, &[d()]);
+    refused.sheet.pop();
+    let violation = demand3(&mut by_budget.clone(), &refused).expect_err("the budget shows");
+    assert_eq!(violation.part, "demand 3 (d)");
+    assert!(demand3(&mut Oracle::default(), &wrong).is_ok());
+    assert!(demand3(&mut Oracle::default(), &refused).is_ok());
+}
+
+#[test]
+fn a_mismatch_says_where_and_shrinks() {
+    let mut engine = |sheet: &[u8], store: &mut [u8], kept: u64, question: &[u8], budget: u64| {
+        let given = ask(sheet, store, kept, question, budget);
+        if given.value == 811 {
+            store[5 * 12] ^= 4;
+        }
+        given
+    };
+    let case = l_case(1_024);
+    let mismatch = compare(&mut engine, &case).expect_err("a byte differs");
+    assert_eq!(mismatch.question, 2);
+    assert_eq!(mismatch.expected, mismatch.answer);
+    assert_eq!(mismatch.byte, Some((60, 2, 6)));
+    let shrunk = shrink(case, |case| {
+        case.store.len() > 60 && compare(&mut engine, case).is_err()
+    });
+    assert_eq!(shrunk.asks.len(), 1);
+    assert_eq!(shrunk.asks[0].budget, 6);
+    assert_eq!(shrunk.store.len(), 72);
+}
+
+#[test]
+fn a_soak_ends_with_a_shrunk_list_that_can_be_replayed() {
+    let mut engine = |sheet: &[u8], store: &mut [u8], kept: u64, question: &[u8], budget: u64| {
+        let given = ask(sheet, store, kept, question, budget);
+        Answer {
+            kept: given.kept + i64::from(given.number == 16),
+            ..given
+        }
+    };
+    let minute = Duration::from_secs(60);
+    let failure = soak(&mut engine, minute, 4, |engine, case| {
+        compare(engine, case).map_err(|mismatch| mismatch.to_string())
+    })
+    .expect_err("some question is too deep");
+    assert!(failure.detail.starts_with("question 0: oracle 16 0 0 0 "));
+    assert_eq!(failure.list.case.asks.len(), 1);
+    let lists = read_lists(&failure.list.to_string()).expect("the text form");
+    assert_eq!(lists.len(), 1);
+    assert!(compare(&mut engine, &lists[0].case).is_err());
+}
+
+#[test]
+fn a_soak_that_passes_counts_its_answers() {
+    let second = Duration::from_secs(1);
+    let soaked = soak(&mut Oracle::default(), second, 4, |oracle, case| {
+        compare(oracle, case).map_err(|mismatch| mismatch.to_string())
+    });
+    let (cases, counts) = soaked.expect("the oracle agrees with itself");
+    assert!(cases > 10);
+    assert!(counts.answers.values().sum::<u64>() > 10);
+}
+
+#[test]
+fn lists_are_written_as_they_are_read() {
+    let mut lent = case(3, &[d(), l10(), Vec::new()]);
+    lent.store = vec![0xAB; 36];
+    lent.asks[0].budget = u64::MAX;
+    let listed = lent.answered(&mut Oracle::default());
+    let text = listed.to_string();
+    assert!(text.contains("\nask 18446744073709551615 220213010010 -> 11 0 0 0 0 0\n"));
+    assert!(text.contains("\nask 1000000 - -> 12 0 0 0 0 1\n"));
+    assert!(text.ends_with("left 1 0000000000000000ffff0000\n"));
+    assert_eq!(read_lists(&text), Ok(vec![listed.clone()]));
+    let twice = format!("{text}{text}");
+    assert_eq!(read_lists(&twice), Ok(vec![listed.clone(), listed]));
+}
+
+#[test]
+fn a_line_that_is_not_understood_is_named() {
+    let good = case(1, &[d()]).answered(&mut Oracle::default()).to_string();
+    assert!(read_lists(&good).is_ok());
+    let bad = [
+        (good.replace("sheet", "shoot"), "line 1"),
+        (good.replace("store 12 0 -", "store 12 0 00"), "line 2"),
+        (good.replace(" -> ", " = "), "line 3"),
+        (good.replace("ask 1000000", "ask -1"), "line 3"),
+        (good.replace("left 1", "left 0"), "line 4"),
+        (good.replace("left 1", "left 1 zz"), "line 4"),
+    ];
+    for (text, line) in bad {
+        let error = read_lists(&text).expect_err("not understood");
+        assert!(error.starts_with(line), "{error}");
+    }
+    let cut = good.lines().next().expect("a line");
+    assert!(read_lists(cut).is_err());
+}

@@ -1,0 +1,8 @@
+//! What document 01 says, case by case.
+
+mod common;
+mod comparing;
+mod sheet_l;
+mod stops;
+mod values;
+mod vectors;

@@ -1,0 +1,175 @@
+//! Document 01, "Values and functions".
+
+use oracle::values::{Base, Function, Type, Value};
+
+const MIN: i32 = i32::MIN;
+const MAX: i32 = i32::MAX;
+
+fn of_ints(function: Function, first: i32, second: i32) -> Value {
+    Value::Function(function)
+        .apply(Value::Int(first))
+        .apply(Value::Int(second))
+}
+
+#[test]
+fn add_is_held_at_both_ends() {
+    let cases = [
+        (MAX, 0, MAX),
+        (MAX, 1, MAX),
+        (1, MAX, MAX),
+        (MAX, MAX, MAX),
+        (MAX - 1, 1, MAX),
+        (MIN, 0, MIN),
+        (MIN, -1, MIN),
+        (-1, MIN, MIN),
+        (MIN, MIN, MIN),
+        (MIN + 1, -1, MIN),
+        (MIN, MAX, -1),
+        (3, -5, -2),
+    ];
+    for (first, second, sum) in cases {
+        assert_eq!(of_ints(Function::Add, first, second), Value::Int(sum));
+    }
+}
+
+#[test]
+fn subtract_is_held_at_both_ends() {
+    let cases = [
+        (MAX, -1, MAX),
+        (MAX, MIN, MAX),
+        (0, MIN, MAX),
+        (-1, MIN, MAX),
+        (MAX, 0, MAX),
+        (MIN, 1, MIN),
+        (MIN, MAX, MIN),
+        (-2, MAX, MIN),
+        (-1, MAX, MIN),
+        (MIN, MIN, 0),
+        (MAX, MAX, 0),
+        (3, 5, -2),
+    ];
+    for (first, second, difference) in cases {
+        assert_eq!(
+            of_ints(Function::Subtract, first, second),
+            Value::Int(difference)
+        );
+    }
+}
+
+#[test]
+fn le_and_equal_on_int() {
+    for (first, second) in [(MIN, MAX), (MIN, MIN + 1), (-1, 0), (MAX - 1, MAX)] {
+        assert_eq!(of_ints(Function::Le, first, second), Value::Bool(true));
+        assert_eq!(of_ints(Function::Le, second, first), Value::Bool(false));
+        assert_eq!(
+            of_ints(Function::EqualInt, first, second),
+            Value::Bool(false)
+        );
+    }
+    for same in [MIN, -1, 0, 1, MAX] {
+        assert_eq!(of_ints(Function::Le, same, same), Value::Bool(true));
+        assert_eq!(of_ints(Function::EqualInt, same, same), Value::Bool(true));
+    }
+}
+
+#[test]
+fn null_equals_only_null() {
+    let equal = |first, second| {
+        Value::Function(Function::EqualNode)
+            .apply(Value::Node(first))
+            .apply(Value::Node(second))
+    };
+    assert_eq!(equal(None, None), Value::Bool(true));
+    assert_eq!(equal(Some(0), None), Value::Bool(false));
+    assert_eq!(equal(None, Some(0)), Value::Bool(false));
+    assert_eq!(equal(Some(1_023), Some(1_023)), Value::Bool(true));
+    assert_eq!(equal(Some(1), Some(2)), Value::Bool(false));
+}
+
+#[test]
+fn not_turns_a_bool() {
+    let not = Value::Function(Function::Not);
+    assert_eq!(not.apply(Value::Bool(true)), Value::Bool(false));
+    assert_eq!(not.apply(Value::Bool(false)), Value::Bool(true));
+}
+
+#[test]
+fn codes_name_types_and_functions() {
+    let types: Vec<Option<Base>> = (0..=4).map(Base::from_code).collect();
+    assert_eq!(
+        types,
+        [
+            Some(Base::Unit),
+            Some(Base::Bool),
+            Some(Base::Int),
+            Some(Base::Node),
+            None
+        ]
+    );
+    let functions: Vec<Option<Function>> = (0..=6).map(Function::from_code).collect();
+    assert_eq!(
+        functions,
+        [
+            Some(Function::Le),
+            Some(Function::EqualInt),
+            Some(Function::EqualNode),
+            Some(Function::Not),
+            Some(Function::Add),
+            Some(Function::Subtract),
+            None
+        ]
+    );
+    let int_to_bool = Type::Function(Base::Int, Box::new(Type::Base(Base::Bool)));
+    assert_eq!(
+        Function::Le.type_of(),
+        Type::Function(Base::Int, Box::new(int_to_bool))
+    );
+    assert_eq!(
+        Function::Not.type_of(),
+        Type::Function(Base::Bool, Box::new(Type::Base(Base::Bool)))
+    );
+}
+
+#[test]
+fn four_bytes_of_each_base_type() {
+    let nodes = 3;
+    let read = |base, bytes| Value::from_bytes(base, bytes, nodes);
+    let good = [
+        (Base::Unit, [0, 0, 0, 0], Value::Unit, 0),
+        (Base::Bool, [0, 0, 0, 0], Value::Bool(false), 0),
+        (Base::Bool, [1, 0, 0, 0], Value::Bool(true), 1),
+        (Base::Int, [0, 0, 0, 0x80], Value::Int(MIN), -2_147_483_648),
+        (
+            Base::Int,
+            [0xFF, 0xFF, 0xFF, 0x7F],
+            Value::Int(MAX),
+            2_147_483_647,
+        ),
+        (Base::Int, [0xFF; 4], Value::Int(-1), -1),
+        (Base::Int, [0xBC, 2, 0, 0], Value::Int(700), 700),
+        (Base::Node, [0, 0, 0, 0], Value::Node(Some(0)), 0),
+        (Base::Node, [2, 0, 0, 0], Value::Node(Some(2)), 2),
+        (Base::Node, [0xFF, 0xFF, 0, 0], Value::Node(None), 65_535),
+    ];
+    for (base, bytes, value, number) in good {
+        assert_eq!(read(base, bytes), Some(value));
+        assert_eq!(value.to_bytes(), bytes);
+        assert_eq!(value.number(), number);
+        assert_eq!(value.base(), Some(base));
+    }
+    let bad = [
+        (Base::Unit, [1, 0, 0, 0]),
+        (Base::Unit, [0, 0, 0, 1]),
+        (Base::Bool, [2, 0, 0, 0]),
+        (Base::Bool, [1, 1, 0, 0]),
+        (Base::Bool, [0xFF; 4]),
+        (Base::Node, [3, 0, 0, 0]),
+        (Base::Node, [0, 0, 1, 0]),
+        (Base::Node, [0xFF; 4]),
+        (Base::Node, [0xFF, 0xFF, 1, 0]),
+        (Base::Node, [0xFE, 0xFF, 0, 0]),
+    ];
+    for (base, bytes) in bad {
+        assert_eq!(read(base, bytes), None, "{base:?} {bytes:?}");
+    }
+}

@@ -1,0 +1,30 @@
+//! The lists of tests/vectors, worked out by a separate reader of document 01.
+
+use oracle::case::read_lists;
+use oracle::{demand3, Oracle};
+
+const BASE: &str = include_str!("../../../../tests/vectors/base.txt");
+
+#[test]
+fn the_oracle_agrees_with_every_list() {
+    let lists = read_lists(BASE).expect("the text form");
+    assert_eq!(lists.len(), 451);
+    let mut oracle = Oracle::default();
+    for listed in lists {
+        assert_eq!(listed.case.clone().answered(&mut oracle), listed);
+    }
+}
+
+#[test]
+fn demand_3_holds_on_every_list() {
+    let lists = read_lists(BASE).expect("the text form");
+    let mut oracle = Oracle::default();
+    let mut checks = 0;
+    for listed in lists {
+        let counts = demand3(&mut oracle, &listed.case).unwrap_or_else(|violation| {
+            panic!("{violation}\n{listed}");
+        });
+        checks += counts.checks.values().sum::<u64>();
+    }
+    assert!(checks > 1_000);
+}
