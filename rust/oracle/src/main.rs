@@ -2,7 +2,6 @@
 
 use std::fs;
 use std::process::ExitCode;
-use std::time::Duration;
 
 use oracle::case::{read_lists, Listed};
 use oracle::compare::Counts;
@@ -11,15 +10,15 @@ use oracle::sheet::Sheet;
 use oracle::soak::soak;
 use oracle::{ask, demand3, Oracle};
 
-const USAGE: &str = "usage: oracle vectors FILE | self SECONDS SEED | replay FILE";
+const USAGE: &str = "usage: oracle vectors FILE | self CASES SEED | replay FILE";
 
 fn main() -> ExitCode {
     let arguments: Vec<String> = std::env::args().skip(1).collect();
     let words: Vec<&str> = arguments.iter().map(String::as_str).collect();
     let done = match words[..] {
         ["vectors", file] => vectors(file),
-        ["self", seconds, seed] => match (seconds.parse(), seed.parse()) {
-            (Ok(seconds), Ok(seed)) => check_self(Duration::from_secs(seconds), seed),
+        ["self", cases, seed] => match (cases.parse(), seed.parse()) {
+            (Ok(cases), Ok(seed)) => check_self(cases, seed),
             _ => Err(USAGE.into()),
         },
         ["replay", file] => replay(file),
@@ -68,13 +67,12 @@ fn vectors(file: &str) -> Result<(), String> {
 }
 
 /// Tries demand 3 on the oracle itself, over generated cases.
-fn check_self(time: Duration, seed: u64) -> Result<(), String> {
+fn check_self(cases: u64, seed: u64) -> Result<(), String> {
     let mut oracle = Oracle::default();
-    let soaked = soak(&mut oracle, time, seed, |oracle, case| {
+    let soaked = soak(&mut oracle, cases, seed, |oracle, case| {
         demand3(oracle, case).map_err(|violation| violation.to_string())
     });
-    let (cases, counts) =
-        soaked.map_err(|failure| format!("{}{}", failure.list, failure.detail))?;
+    let counts = soaked.map_err(|failure| format!("{}{}", failure.list, failure.detail))?;
     print!("{counts}");
     println!("{cases} lists");
     match counts.unmet()[..] {

@@ -1,6 +1,4 @@
-//! Generated cases put to an engine for a time.
-
-use std::time::{Duration, Instant};
+//! Generated cases put to an engine.
 
 use crate::case::{Case, Listed};
 use crate::compare::Counts;
@@ -15,22 +13,20 @@ pub struct Failure {
     pub detail: String,
 }
 
-/// Puts cases to an engine until the time is over or one fails. Returns how many there were, with all their counts.
+/// Puts this many cases to an engine, or as many as it takes until one fails. The cases are the seed's, whatever the machine's speed.
 pub fn soak<E, T>(
     engine: &mut E,
-    time: Duration,
+    cases: u64,
     seed: u64,
     mut check: T,
-) -> Result<(u64, Counts), Box<Failure>>
+) -> Result<Counts, Box<Failure>>
 where
     E: Engine + ?Sized,
     T: FnMut(&mut E, &Case) -> Result<Counts, String>,
 {
-    let start = Instant::now();
-    let mut cases = 0;
     let mut counts = Counts::default();
-    while start.elapsed() < time {
-        let case = generate::case(&mut Rng::new(seed, cases));
+    for number in 0..cases {
+        let case = generate::case(&mut Rng::new(seed, number));
         match check(engine, &case) {
             Ok(more) => counts.add(&more),
             Err(_) => {
@@ -40,7 +36,6 @@ where
                 return Err(Box::new(Failure { list, detail }));
             }
         }
-        cases += 1;
     }
-    Ok((cases, counts))
+    Ok(counts)
 }

@@ -1,7 +1,6 @@
 //! Engines with planted faults, and which check finds them.
 
 use std::slice::from_ref;
-use std::time::Duration;
 
 use crate::common::*;
 use oracle::case::{read_lists, Ask, Case};
@@ -227,8 +226,7 @@ fn a_soak_ends_with_a_shrunk_list_that_can_be_replayed() {
             ..given
         }
     };
-    let minute = Duration::from_secs(60);
-    let failure = soak(&mut engine, minute, 4, |engine, case| {
+    let failure = soak(&mut engine, 10_000, 4, |engine, case| {
         compare(engine, case).map_err(|mismatch| mismatch.to_string())
     })
     .expect_err("some question is too deep");
@@ -241,12 +239,10 @@ fn a_soak_ends_with_a_shrunk_list_that_can_be_replayed() {
 
 #[test]
 fn a_soak_that_passes_counts_its_answers() {
-    let second = Duration::from_secs(1);
-    let soaked = soak(&mut Oracle::default(), second, 4, |oracle, case| {
+    let soaked = soak(&mut Oracle::default(), 50, 4, |oracle, case| {
         compare(oracle, case).map_err(|mismatch| mismatch.to_string())
     });
-    let (cases, counts) = soaked.expect("the oracle agrees with itself");
-    assert!(cases > 10);
+    let counts = soaked.expect("the oracle agrees with itself");
     assert!(counts.answers.values().sum::<u64>() > 10);
 }
 
