@@ -259,7 +259,13 @@ node-complete s (suc k) n m e p q = go (gapAt s (attributeCount s) n 0) refl (eq
 
 abbrev Verdict : Checked Sheet → Type 0
 Verdict (refused number place) = StopNumber number
-Verdict (accepted s) = AcceptedSheet s × ((k a : ℕ) → Found (λ p. Reads s (piece-of p)) (ruleFor (s .rules) k a))
+Verdict (accepted s) =
+    AcceptedSheet s × ((k a : ℕ) → Found (λ p. Reads s (piece-of p)) (ruleFor (s .rules) k a))
+    × ((n a : ℕ) → n < nodeCount s → a < attributeCount s → isDefined (definition s n a) ≡ true)
+
+no-gap : (s : Sheet) → gapFrom s (nodeCount s) 0 ≡ none → (n a : ℕ) → n < nodeCount s → a < attributeCount s → isDefined (definition s n a) ≡ true
+no-gap s e n a p q =
+    attribute-defined s (attributeCount s) n 0 a (node-complete s (nodeCount s) 0 n e (omega arith) (omega arith)) (omega arith) (omega arith)
 
 complete-verdict : (s : Sheet) (part : ℕ) (o : Option ℕ) → gapFrom s (nodeCount s) 0 ≡ o → SoFar s part → Verdict (complete s o)
 unfolding complete ruleScope context definition
@@ -272,10 +278,11 @@ complete-verdict s part none e h = (
       scope = ruleScope s;
       same-nodes = refl;
       defines = λ n a p q. in-force (Gives s) a _ _ (figure-found (Gives s) a n (s .figures) (h .figures-give)) (rule-found (Gives s) a _ (s .rules) (h .rules-give))
-          (attribute-defined s (attributeCount s) n 0 a (node-complete s (nodeCount s) 0 n e (omega arith) (omega arith)) (omega arith) (omega arith));
+          (no-gap s e n a p q);
     };
   },
   λ k a. rule-found (λ b d. Reads s d) a k (s .rules) (h .rules-read),
+  no-gap s e,
 )
 
 commands-verdict : (k : ℕ) (s : Sheet) (part at : ℕ) (l : List ℕ) → SoFar s part → Verdict (readCommands k s part at l)
@@ -305,6 +312,11 @@ accepted-sheet bytes s e = subst Verdict e (sheet-verdict bytes) .0
 pub rule-reads : (bytes : List ℕ) (s : Sheet) → checkSheet bytes ≡ accepted s → (k a : ℕ) (p : List ℕ) → ruleFor (s .rules) k a ≡ some p
     → (e : Expr) × (readWhole (ruleScope s) p ≡ expression e)
 rule-reads bytes s e k a p f = subst (Found (λ p. Reads s (piece-of p))) f (subst Verdict e (sheet-verdict bytes) .1 k a)
+
+-- an accepted sheet defines every declared pair
+pub pair-defined : (bytes : List ℕ) (s : Sheet) → checkSheet bytes ≡ accepted s → (n a : ℕ) → n < nodeCount s → a < attributeCount s
+    → isDefined (definition s n a) ≡ true
+pair-defined bytes s e = subst Verdict e (sheet-verdict bytes) .2
 
 pub refused-numbers : (bytes : List ℕ) (number place : ℕ) → checkSheet bytes ≡ refused number place → (1 ≤ number) × (number ≤ 8)
 refused-numbers bytes number place e = subst Verdict e (sheet-verdict bytes)

@@ -130,7 +130,7 @@ DueIn nodes sig T (writes e t) = EntryIn nodes sig e × TermIn nodes sig t T
 DueIn nodes sig T (halts r) = Unit {0}
 
 -- a Node value that is not null is declared
-declared : {nodes : ℕ} {v : Value} → IsA nodes nodeT v → eqb (nodeOf v) null ≡ false → nodeOf v < nodes
+pub declared : {nodes : ℕ} {v : Value} → IsA nodes nodeT v → eqb (nodeOf v) null ≡ false → nodeOf v < nodes
 unfolding isWord ofWord nodeOf
 declared {nodes} {v} h q = ltb-true _ _ (left (ltb (nodeOf v) nodes) (rw (ap nodeOf (h .round-trip)) at (h .is-word)) q)
   where

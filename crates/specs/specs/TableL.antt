@@ -1,10 +1,10 @@
 -- Sheet L, its questions and the table of cases L1 to L13 (document 01, "Sheet L and its questions").
+use mathlib.Core.Bool.{true}
 use mathlib.Core.List.{List, [], _∷_}
 use mathlib.Core.Path.{_≡_}
 use Prim.Native.Nat.{ℕ, _*_}
 use lib.ListN.{replicate, take, length}
 use lib.IntN.{ℤ, pos}
-use mathlib.Core.Bool.{true}
 use Rattle.specs.specs.Values.{Value, unit, bool, int, node}
 use Rattle.specs.specs.Expressions.{Expr}
 use Rattle.specs.specs.Sheet.{Sheet, accepted, checkSheet, context}
@@ -142,7 +142,7 @@ TableL =
 
 -- ---- Plain Saiga on the same bytes
 
--- A sheet and a question are accepted, and what they say ends so.
+-- The sheet's bytes and the question's are accepted, and plain Saiga on what they say comes to this ending.
 unfoldable pub Plainly : List ℕ → List ℕ → (Sheet → Expr → Type 0) → Type 0
 Plainly sheet question Ends =
     (s : Sheet) × (e : Expr) × (checkSheet sheet ≡ accepted s) × (checkQuestion s question ≡ accepted e) × Ends s e
