@@ -1,0 +1,522 @@
+-- AttrApp and CacheWrite on registers and memory are moves of the machine.
+use mathlib.Core.Bool.{Bool, true, false, false≢true}
+use mathlib.Core.Bool as Bool
+use mathlib.Core.Option.{Option, none, some}
+use mathlib.Core.List.{List, [], _∷_}
+use mathlib.Core.Logic.{_⊎_, inl, inr}
+use mathlib.Core.Path.{_≡_, refl, sym, _∙_, ap}
+use Prim.Native.Nat.{ℕ, zero, suc, _+_, _*_, _-_, _/_, _%_, _≤_, _<_}
+use native.Mathlib.Nat.{eq-or-lt-of-le}
+use native.Mathlib.Omega.{arith}
+use native.Mathlib.Numerals.{add-one}
+use lib.Dec.{leb, eqb}
+use lib.ListN.{length, take, drop, getD, set, length-set}
+use lib.Seq.{getD-set-same, getD-set-other}
+use borrow.Author.Tests.{leb-true, leb-false, lt-ltb, le-ltb, lt-leb, eq-eqb, ne-eqb}
+use Rattle.specs.specs.Values.{boolT, nodeT, Ty, base, _⇒_, null, nodeOf, baseOf, ofBytes, ofWord, toWord}
+use Rattle.specs.specs.declared.Value.{Value}
+use Rattle.specs.specs.Types.{Attribute, attributeAt}
+use Rattle.specs.specs.Sheet.{Sheet, nodeCount, attributeCount, Definition, figure, piece-of, ruled, figured, definition, isDefined, accepted}
+use Rattle.specs.specs.Terms.{Occurrence, val, cond, app, attr, form}
+use Rattle.specs.specs.Caching.{Entry, Running, kept, write, AttrApp, null-node, spent, depth}
+use Rattle.specs.specs.Store.{checkStore}
+use Rattle.specs.specs.Ask.{reasonNumber}
+use Rattle.specs.proofs.Sound.{IsA, ValueIn, OccurrenceIn, TermIn, val∈, cond∈, app∈, attr∈, form∈}
+use Rattle.specs.proofs.Words.{word-in}
+use Rattle.specs.proofs.Accepted.{pair-defined}
+use Rattle.specs.proofs.Preservation.{declared, either}
+use Rattle.sheets.specs.Scan.{figurePlace, figureAt, pieceAt, indexed}
+use Rattle.sheets.proofs.Indexed.{attributeIn, attribute-by-index, kind-by-index, definition-by-index}
+use Rattle.stores.specs.Keys.{findKey}
+use Rattle.pieces.specs.Pieces.{pieceIn, restOf}
+use Rattle.frames.specs.Words.{valueIn}
+use Rattle.machine.specs.Machine.{Frame, on-if, on-left, on-skip, on-right, on-node, on-parameter, on-form, returning, Machine, openForms, plug, termOf, stateOf, moves, takes, counted, defined, applied, give, moveOf, move}
+use Rattle.machine.specs.Machine as Machine
+use Rattle.engine.specs.Decode.{sheetOf, entriesOf, plainFrame, formOccurrence, formRest, framesIn, modeOf, machineOf, Placed}
+use Rattle.engine.specs.Steps.{Memory, Stepped, goes, answered, cacheWrite, closeForm, ruleIndex, openRule, openFigure, takeKept, attributeDue}
+use Rattle.engine.specs.declared.Registers.{Registers}
+use Rattle.machine.proofs.Bounds.{frames-fit}
+use Rattle.machine.specs.Machine.{Next, by-move, by-step}
+use Rattle.engine.specs.Represents.{machineIn, Represents, Matches}
+use Rattle.engine.proofs.Writing.{keyOf, ByKey, Written, cache-write}
+
+-- ---- Types
+
+module _ {nodes : ℕ} {sig : List Attribute} where
+  -- what a rule of the types says of the parts
+  val-in : {v : Value} {T : Ty} → TermIn nodes sig (val v) T → ValueIn nodes T v
+  val-in (val∈ h) = h
+
+  cond-in : {c t e : Running} {T : Ty} → TermIn nodes sig (cond c t e) T → (U : Ty) × TermIn nodes sig c U
+  cond-in (cond∈ c t e) = (base boolT, c)
+
+  app-in : {f x : Running} {T : Ty} → TermIn nodes sig (app f x) T → ((U : Ty) × TermIn nodes sig f U) × ((U : Ty) × TermIn nodes sig x U)
+  app-in (app∈ {B = B} {T = T} f x) = ((B ⇒ T, f), (base B, x))
+
+  attr-in : {n x : Running} {a : ℕ} {T : Ty} → TermIn nodes sig (attr n a x) T
+      → (a < length sig) × TermIn nodes sig n (base nodeT) × TermIn nodes sig x (base (attributeAt sig a .parameter-type))
+  attr-in (attr∈ a n x) = (a, n, x)
+
+  pub form-in : {o : Occurrence} {e : Running} {T : Ty} → TermIn nodes sig (form o e) T
+      → OccurrenceIn nodes sig o × TermIn nodes sig e (base (attributeAt sig (o .attribute) .result))
+  form-in (form∈ o e) = (o, e)
+
+  -- A part of what is of a type is of a type.
+  pub plug-in : (s : Sheet) (fs : List Frame) (t : Running) (l : List ℕ) {T : Ty} → TermIn nodes sig (plug s fs t l) T → (U : Ty) × TermIn nodes sig t U
+  unfolding plug
+  plug-in s [] t l {T} h = (T, h)
+  plug-in s (on-if ∷ fs) t l h = cond-in (plug-in s fs _ _ h .1)
+  plug-in s (on-left ∷ fs) t l h = app-in (plug-in s fs _ _ h .1) .0
+  plug-in s (on-skip ∷ fs) t l h = plug-in s fs t _ h
+  plug-in s (on-right v ∷ fs) t l h = app-in (plug-in s fs _ _ h .1) .1
+  plug-in s (on-node a ∷ fs) t l h = (_, attr-in (plug-in s fs _ _ h .1) .1)
+  plug-in s (on-parameter v a ∷ fs) t l h = (_, attr-in (plug-in s fs _ _ h .1) .2)
+  plug-in s (on-form o outer ∷ fs) t l h = (_, form-in (plug-in s fs _ _ h .1) .1)
+
+-- ---- Frames and forms
+
+-- every frame but a form's leaves the open forms as they are
+plain-open : (w : ℕ) (fs : List Frame) → openForms (plainFrame w ∷ fs) ≡ openForms fs
+unfolding plainFrame openForms
+plain-open w fs =
+    either P (eqb (w % 8) 0) (λ _. refl)
+    (λ _. either P (eqb (w % 8) 1) (λ _. refl)
+    (λ _. either P (eqb (w % 8) 2) (λ _. refl)
+    (λ _. either P (eqb (w % 8) 3) (λ _. refl)
+    (λ _. either P (eqb (w % 8) 4) (λ _. refl) (λ _. refl)))))
+  where
+    P : Frame → Type 0
+    P f = openForms (f ∷ fs) ≡ openForms fs
+
+-- what is read of a form
+module _ (sheet question forms forms′ : List ℕ) (k : ℕ) (same : (i : ℕ) → i < 4 * k + 4 → getD forms′ i 0 ≡ getD forms i 0) where
+  form-same : (formOccurrence sheet forms′ k ≡ formOccurrence sheet forms k) × (formRest sheet question forms′ k ≡ formRest sheet question forms k)
+  unfolding formOccurrence formRest
+  form-same = rw (same (4 * k) (omega arith), same (4 * k + 1) (omega arith), same (4 * k + 2) (omega arith), same (4 * k + 3) (omega arith)) (refl, refl)
+
+  placed-same : Placed sheet question forms k → Placed sheet question forms′ k
+  placed-same p =
+      record {
+        word = rw (form-same .0, same (4 * k + 1) (omega arith)) (p .word);
+        from = rw (same (4 * k + 2) (omega arith), same (4 * k + 3) (omega arith)) (p .from);
+        to = rw (same (4 * k + 3) (omega arith)) (p .to);
+      }
+
+module _ (sheet question words forms : List ℕ) where
+  frames-length : (n k : ℕ) → length (framesIn sheet question words forms n k) ≡ n
+  unfolding framesIn
+  frames-length zero k = refl
+  frames-length (suc n) k =
+      either (λ (fs : List Frame). length fs ≡ suc n) (eqb (getD words n 0 % 8) 6) (λ _. ap suc (frames-length n (k - 1))) (λ _. ap suc (frames-length n k))
+
+  -- the innermost of some frames
+  innermost-frame : (n k : ℕ) → 0 < n → framesIn sheet question words forms n k
+      ≡ Bool.cond (eqb (getD words (n - 1) 0 % 8) 6)
+      (on-form (formOccurrence sheet forms (k - 1)) (formRest sheet question forms (k - 1)) ∷ framesIn sheet question words forms (n - 1) (k - 1))
+      (plainFrame (getD words (n - 1) 0) ∷ framesIn sheet question words forms (n - 1) k)
+  unfolding framesIn
+  innermost-frame zero k h = absurd (omega arith)
+  innermost-frame (suc n) k h = let e : suc n - 1 ≡ n = omega arith in rw e
+
+  -- Frames are read from their words and from the forms that are open.
+  frames-same : (words′ forms′ : List ℕ) (n k : ℕ) → length (openForms (framesIn sheet question words forms n k)) ≡ k
+      → ((i : ℕ) → i < n → getD words′ i 0 ≡ getD words i 0) → ((i : ℕ) → i < 4 * k → getD forms′ i 0 ≡ getD forms i 0)
+      → framesIn sheet question words′ forms′ n k ≡ framesIn sheet question words forms n k
+  unfolding framesIn openForms
+  frames-same words′ forms′ zero k counted same-words same-forms = refl
+  frames-same words′ forms′ (suc n) k counted same-words same-forms =
+      go (eqb (getD words n 0 % 8) 6) refl (λ j c f. frames-same words′ forms′ n j c (λ i h. same-words i (omega arith)) f)
+    where
+      go : (b : Bool) → eqb (getD words n 0 % 8) 6 ≡ b
+          → ((j : ℕ) → length (openForms (framesIn sheet question words forms n j)) ≡ j → ((i : ℕ) → i < 4 * j → getD forms′ i 0 ≡ getD forms i 0)
+          → framesIn sheet question words′ forms′ n j ≡ framesIn sheet question words forms n j)
+          → framesIn sheet question words′ forms′ (suc n) k ≡ framesIn sheet question words forms (suc n) k
+      go true e below =
+          let one-more = rw e at counted in
+          let f = form-same sheet question forms forms′ (k - 1) (λ i h. same-forms i (omega arith)) in
+          rw (same-words n (omega arith), e, f .0, f .1, below (k - 1) (omega arith) (λ i h. same-forms i (omega arith)))
+      go false e below = rw (same-words n (omega arith), e, below k (rw (e, plain-open) at counted) same-forms)
+
+-- four words in a row
+abbrev setFour : List ℕ → ℕ → ℕ → ℕ → ℕ → ℕ → List ℕ
+setFour forms f a b c d = set (set (set (set forms f a) (f + 1) b) (f + 2) c) (f + 3) d
+
+module _ (forms : List ℕ) (f a b c d : ℕ) (fits : f + 4 ≤ length forms) where
+  abbrev four : List ℕ
+  four = setFour forms f a b c d
+
+  four-older : (i : ℕ) → i < f → getD four i 0 ≡ getD forms i 0
+  four-older i h =
+      rw (getD-set-other _ (f + 3) i d 0 (omega arith), getD-set-other _ (f + 2) i c 0 (omega arith), getD-set-other _ (f + 1) i b 0 (omega arith))
+      (getD-set-other forms f i a 0 (omega arith))
+
+  four-first : getD four f 0 ≡ a
+  four-first =
+      rw (getD-set-other _ (f + 3) f d 0 (omega arith), getD-set-other _ (f + 2) f c 0 (omega arith), getD-set-other _ (f + 1) f b 0 (omega arith))
+      (getD-set-same forms f a 0 (omega arith))
+
+  four-second : getD four (f + 1) 0 ≡ b
+  four-second =
+      rw (getD-set-other _ (f + 3) (f + 1) d 0 (omega arith), getD-set-other _ (f + 2) (f + 1) c 0 (omega arith))
+      (getD-set-same (set forms f a) (f + 1) b 0 (simp length-set (omega arith)))
+
+  four-third : getD four (f + 2) 0 ≡ c
+  four-third =
+      rw (getD-set-other _ (f + 3) (f + 2) d 0 (omega arith))
+      (getD-set-same (set (set forms f a) (f + 1) b) (f + 2) c 0 (simp length-set (omega arith)))
+
+  four-last : getD four (f + 3) 0 ≡ d
+  four-last = getD-set-same (set (set (set forms f a) (f + 1) b) (f + 2) c) (f + 3) d 0 (simp length-set (omega arith))
+
+-- One more form, in the place of the innermost of n frames.
+module _ (sheet question words forms : List ℕ) (n k node a w from to : ℕ) (small : a < 32) (fits : 4 * k + 4 ≤ length forms) where
+  abbrev opened : List ℕ
+  opened = setFour forms (4 * k) (node * 32 + a) w from to
+
+  abbrev occurrence : Occurrence
+  occurrence = record { node = node; attribute = a; parameter = ofWord (baseOf (getD sheet (3 * a + 2) 0)) w }
+
+  opened-occurrence : formOccurrence sheet opened k ≡ occurrence
+  unfolding formOccurrence
+  opened-occurrence =
+      let of-node : (node * 32 + a) / 32 ≡ node = omega arith in
+      let of-attribute : (node * 32 + a) % 32 ≡ a = omega arith in
+      rw (four-first forms (4 * k) (node * 32 + a) w from to fits, four-second forms (4 * k) (node * 32 + a) w from to fits, of-node, of-attribute)
+
+  opened-rest : formRest sheet question opened k ≡ restOf sheet question k from to
+  unfolding formRest
+  opened-rest = rw (four-third forms (4 * k) (node * 32 + a) w from to fits, four-last forms (4 * k) (node * 32 + a) w from to fits)
+
+  opened-frames : 0 < n → n ≤ length words → length (openForms (framesIn sheet question words forms (n - 1) k)) ≡ k
+      → framesIn sheet question (set words (n - 1) 6) opened n (k + 1)
+      ≡ on-form occurrence (restOf sheet question k from to) ∷ framesIn sheet question words forms (n - 1) k
+  opened-frames framed inside counted =
+      let below : k + 1 - 1 ≡ k = omega arith in
+      innermost-frame sheet question (set words (n - 1) 6) opened n (k + 1) framed
+      ∙ rw (
+        getD-set-same words (n - 1) 6 0 (omega arith),
+        below,
+        opened-occurrence,
+        opened-rest,
+        frames-same sheet question words forms (set words (n - 1) 6) opened (n - 1) k counted (λ i h. getD-set-other words (n - 1) i 6 0 (omega arith))
+            (four-older forms (4 * k) (node * 32 + a) w from to fits),
+      )
+
+  opened-placed : toWord (occurrence .parameter) ≡ w → from ≤ to → to ≤ length (pieceIn sheet question k)
+      → ((j : ℕ) → j < k → Placed sheet question forms j) → (j : ℕ) → j < k + 1 → Placed sheet question opened j
+  opened-placed worded in-order inside older j h = go (eq-or-lt-of-le (omega arith))
+    where
+      go : (j ≡ k) ⊎ (j < k) → Placed sheet question opened j
+      go (inl e) =
+          rw e
+          (record {
+            word = rw (opened-occurrence, four-second forms (4 * k) (node * 32 + a) w from to fits) worded;
+            from = rw (four-third forms (4 * k) (node * 32 + a) w from to fits, four-last forms (4 * k) (node * 32 + a) w from to fits) in-order;
+            to = rw (four-last forms (4 * k) (node * 32 + a) w from to fits) inside;
+          })
+      go (inr lt) = placed-same sheet question forms opened j (λ i h. four-older forms (4 * k) (node * 32 + a) w from to fits i (omega arith)) (older j lt)
+
+-- ---- Moves
+
+same-machine : {M N : Machine} → M .mode ≡ N .mode → M .rest ≡ N .rest → M .frames ≡ N .frames → M .entries ≡ N .entries → M .steps ≡ N .steps → M ≡ N
+same-machine a b c d e i = record { mode = a i; rest = b i; frames = c i; entries = d i; steps = e i }
+
+move-gives : (s : Sheet) (capacity budget : ℕ) (M : Machine) (v : Value) (fs : List Frame) → M .mode ≡ returning v → M .frames ≡ fs
+    → move s capacity budget M ≡ give s capacity budget M v fs
+unfolding move moveOf
+move-gives s capacity budget M v fs e f = rw (e, f)
+
+-- A value is given to the innermost frame.
+module _ {sheet index question : List ℕ} {attributes : ℕ} {mem : Memory} {m : Registers} (r : Represents sheet index question attributes mem m)
+    (returns : m .returning ≡ true) (framed : 0 < m .frames)
+    (by-key : (store : List ℕ) (k : ℕ) (entries : List Entry) → checkStore (sheetOf sheet) store k ≡ accepted entries → ByKey (sheetOf sheet) store k entries) where
+  abbrev s : Sheet
+  s = sheetOf sheet
+
+  abbrev M : Machine
+  M = machineIn sheet question mem m
+
+  abbrev entries : List Entry
+  entries = r .holds .entries
+
+  -- the innermost frame's word, and the frames below it, where so many forms are open
+  abbrev word : ℕ
+  word = getD (mem .words) (m .frames - 1) 0
+
+  abbrev below : ℕ → List Frame
+  below k = framesIn sheet question (mem .words) (mem .forms) (m .frames - 1) k
+
+  mode-is : M .mode ≡ returning (m .value)
+  unfolding machineOf modeOf
+  mode-is = rw returns
+
+  entries-are : M .entries ≡ entries
+  unfolding machineOf entriesOf
+  entries-are = rw (r .holds .stored)
+
+  value-typed : (fs : List Frame) → M .frames ≡ fs → TermIn (nodeCount s) (s .attributes) (plug s fs (val (m .value)) (M .rest)) (base (r .type))
+  unfolding stateOf termOf
+  value-typed fs e = rw (mode-is, e) at (r .typed)
+
+  write-at : (o : Occurrence) (v : Value) → OccurrenceIn (nodeCount s) (s .attributes) o → IsA (nodeCount s) (attributeAt (s .attributes) (o .attribute) .result) v
+      → Written s (mem .store) (write (length (mem .store) / 12) entries record { occurrence = o; value = v }) (cacheWrite (mem .store) (m .kept) (keyOf o) (toWord v))
+  write-at o v o-in v-in =
+      cache-write s (r .index-of .nodes-bound) (mem .store) (m .kept) entries (r .holds .stored) (by-key _ _ _ (r .holds .stored)) o v o-in v-in
+
+  -- CacheWrite
+  module _ (is-form : word % 8 ≡ 6) where
+    abbrev k : ℕ
+    k = m .forms - 1
+
+    abbrev o : Occurrence
+    o = formOccurrence sheet (mem .forms) k
+
+    form-frames : framesIn sheet question (mem .words) (mem .forms) (m .frames) (m .forms) ≡ on-form o (formRest sheet question (mem .forms) k) ∷ below k
+    form-frames = innermost-frame sheet question (mem .words) (mem .forms) (m .frames) (m .forms) framed ∙ rw (eq-eqb (word % 8) 6 is-form)
+
+    form-counted : suc (length (openForms (below k))) ≡ m .forms
+    unfolding openForms
+    form-counted = rw form-frames at (r .holds .counted)
+
+    form-typed : OccurrenceIn (nodeCount s) (s .attributes) o × IsA (nodeCount s) (attributeAt (s .attributes) (o .attribute) .result) (m .value)
+    unfolding machineOf plug
+    form-typed =
+        let t = plug-in s (below k) _ _ (value-typed (on-form o (formRest sheet question (mem .forms) k) ∷ below k) form-frames) .1 in
+        (form-in t .0, val-in (form-in t .1))
+
+    -- the key that is read from the form's words
+    form-key : keyOf o ≡ record { node = getD (mem .forms) (4 * k) 0 / 32; attribute = getD (mem .forms) (4 * k) 0 % 32; word = getD (mem .forms) (4 * k + 1) 0 }
+    unfolding formOccurrence
+    form-key i =
+        record {
+          node = getD (mem .forms) (4 * k) 0 / 32;
+          attribute = getD (mem .forms) (4 * k) 0 % 32;
+          word = r .holds .placed k (omega (arith, form-counted)) .word i;
+        }
+
+    -- with what CacheWrite leaves
+    closes : (capacity budget limit : ℕ) → length (mem .store) / 12 ≡ capacity → (w : List ℕ × ℕ)
+        → Written s (mem .store) (write (length (mem .store) / 12) entries record { occurrence = o; value = m .value }) w
+        → Matches sheet question capacity budget limit m M
+        (goes record {
+          returning = true;
+          at = getD (mem .forms) (4 * k + 2) 0;
+          end = getD (mem .forms) (4 * k + 3) 0;
+          frames = m .frames - 1;
+          forms = k;
+          kept = w .1;
+          steps = m .steps;
+          value = m .value;
+        } record { store = w .0; words = mem .words; forms = mem .forms })
+    unfolding machineOf modeOf entriesOf formRest give
+    closes capacity budget limit room w written =
+        let h = r .holds in
+        let p = h .placed k (omega (arith, form-counted)) in (
+          by-move
+              (move-gives s capacity budget M (m .value) _ mode-is form-frames
+              ∙ ap moves (same-machine refl refl refl (rw (entries-are, ← room, written .passes)) refl)),
+          record {
+            words-size = h .words-size;
+            forms-size = h .forms-size;
+            few = omega arith;
+            counted = omega (arith, form-counted);
+            from = p .from;
+            to = p .to;
+            placed = λ j lt. h .placed j (omega arith);
+            entries = write (length (mem .store) / 12) entries record { occurrence = o; value = m .value };
+            stored = written .passes;
+          },
+          rw (written .same-length) room,
+        )
+
+    pub close-matches : (capacity budget limit : ℕ) → length (mem .store) / 12 ≡ capacity → Matches sheet question capacity budget limit m M (closeForm mem m)
+    unfolding closeForm
+    close-matches capacity budget limit room =
+        closes capacity budget limit room _ (rw form-key at (write-at o (m .value) (form-typed .0) (form-typed .1)))
+
+  -- AttrApp: the frame has the node and the attribute's number
+  module _ (late : 5 ≤ word % 8) (no-form : word % 8 ≡ 6 → ⊥) where
+    abbrev held : Value
+    held = valueIn (word / 256 % 68719476736)
+
+    abbrev a : ℕ
+    a = word / 8 % 32
+
+    abbrev due : Occurrence
+    due = record { node = nodeOf held; attribute = a; parameter = m .value }
+
+    abbrev under : List Frame
+    under = below (m .forms)
+
+    parameter-frames : framesIn sheet question (mem .words) (mem .forms) (m .frames) (m .forms) ≡ on-parameter held a ∷ under
+    unfolding plainFrame
+    parameter-frames =
+        innermost-frame sheet question (mem .words) (mem .forms) (m .frames) (m .forms) framed
+        ∙ rw (ne-eqb (word % 8) 6 no-form, ne-eqb (word % 8) 0 (omega arith), ne-eqb (word % 8) 1 (omega arith), ne-eqb (word % 8) 2 (omega arith), ne-eqb (word % 8) 3 (omega arith), ne-eqb (word % 8) 4 (omega arith))
+
+    under-counted : length (openForms under) ≡ m .forms
+    unfolding openForms
+    under-counted = rw parameter-frames at (r .holds .counted)
+
+    parameter-typed : (a < attributeCount s) × IsA (nodeCount s) nodeT held × IsA (nodeCount s) (attributeAt (s .attributes) a .parameter-type) (m .value)
+    unfolding machineOf plug
+    parameter-typed =
+        let t = attr-in (plug-in s under _ _ (value-typed (on-parameter held a ∷ under) parameter-frames) .1) in
+        (t .0, val-in (t .1), val-in (t .2))
+
+    module _ (capacity budget limit : ℕ) (room : length (mem .store) / 12 ≡ capacity) where
+      at-frame : move s capacity budget M ≡ Machine.attributeDue s capacity budget M due under
+      unfolding machineOf give
+      at-frame = move-gives s capacity budget M (m .value) _ mode-is parameter-frames
+
+      module _ (no-null : eqb (nodeOf held) null ≡ false) (left : m .steps < budget) (few : m .forms < 64) where
+        due-in : OccurrenceIn (nodeCount s) (s .attributes) due
+        due-in = record { node-declared = declared (parameter-typed .1) no-null; attribute-declared = parameter-typed .0; parameter-in = parameter-typed .2 }
+
+        takes-next : {next : Machine} → applied s capacity budget M due under (kept entries due) ≡ next → Next s capacity budget M next
+        unfolding machineOf Machine.attributeDue
+        takes-next e =
+            by-step (AttrApp a)
+            (at-frame
+            ∙ rw (no-null, lt-ltb (m .steps) budget left, under-counted, lt-leb 64 (m .forms) few)
+            (ap (takes (AttrApp a)) (ap (λ es. applied s capacity budget M due under (kept es due)) entries-are ∙ e)))
+
+        -- the value is there at once
+        answers : (v : Value) (after : List Entry) (w : List ℕ × ℕ) → Written s (mem .store) after w
+            → applied s capacity budget M due under (kept entries due) ≡ counted s capacity budget M (returning v) (M .rest) under after
+            → Matches sheet question capacity budget limit m M (goes (answered m (w .1) v) record { store = w .0; words = mem .words; forms = mem .forms })
+        unfolding machineOf modeOf entriesOf
+        answers v after w written e =
+            let h = r .holds in (
+              takes-next (e ∙ same-machine refl refl refl (rw (written .passes)) (sym (add-one (m .steps)))),
+              record {
+                words-size = h .words-size;
+                forms-size = h .forms-size;
+                few = h .few;
+                counted = under-counted;
+                from = h .from;
+                to = h .to;
+                placed = h .placed;
+                entries = after;
+                stored = written .passes;
+              },
+              rw (written .same-length) room,
+            )
+
+        attribute-is : attributeAt (s .attributes) a ≡ attributeIn sheet a
+        attribute-is = attribute-by-index sheet s index (r .index-of) a (parameter-typed .0)
+
+        by-definition : kept entries due ≡ none → (d : Definition) → definition s (nodeOf held) a ≡ d
+            → applied s capacity budget M due under (kept entries due) ≡ defined s capacity budget M due under d
+        unfolding applied
+        by-definition absent d e = rw (absent, e)
+
+        definition-at : definition s (nodeOf held) a
+            ≡ figured (indexed (getD index (figurePlace (nodeOf held) a) 0) (figureAt sheet a)) (ruled (indexed (ruleIndex sheet index attributes (nodeOf held) a) (pieceAt sheet)))
+        definition-at = rw (r .attributes-are) at (definition-by-index sheet s index (r .index-of) (nodeOf held) a (due-in .node-declared) (due-in .attribute-declared))
+
+        parameter-is : ofWord (baseOf (getD sheet (3 * a + 2) 0)) (toWord (m .value)) ≡ m .value
+        parameter-is = rw attribute-is at (parameter-typed .2 .round-trip)
+
+        form-fits : 4 * m .forms + 4 ≤ length (mem .forms)
+        form-fits = omega arith
+
+        words-fit : m .frames ≤ length (mem .words)
+        unfolding machineOf
+        words-fit = omega (arith, frames-fit M (r .small), frames-length sheet question (mem .words) (mem .forms) (m .frames) (m .forms))
+
+        abbrev forms′ : List ℕ
+        forms′ = setFour (mem .forms) (4 * m .forms) (nodeOf held * 32 + a) (toWord (m .value)) (m .at) (m .end)
+
+        due-frames : framesIn sheet question (set (mem .words) (m .frames - 1) 6) forms′ (m .frames) (m .forms + 1)
+            ≡ on-form due (restOf sheet question (m .forms) (m .at) (m .end)) ∷ under
+        due-frames =
+            rw parameter-is at
+            (opened-frames sheet question (mem .words) (mem .forms) (m .frames) (m .forms) (nodeOf held) a (toWord (m .value)) (m .at) (m .end) (omega arith) form-fits
+            framed words-fit under-counted)
+
+        -- a piece of the sheet runs inside a form
+        runs : (start end : ℕ) → kept entries due ≡ none → definition s (nodeOf held) a ≡ piece-of (restOf sheet question (m .forms + 1) start end)
+            → start ≤ end → end ≤ length sheet
+            → Matches sheet question capacity budget limit m M
+            (goes record {
+              returning = false;
+              at = start;
+              end = end;
+              frames = m .frames;
+              forms = m .forms + 1;
+              kept = m .kept;
+              steps = m .steps + 1;
+              value = m .value;
+            } record { store = mem .store; words = set (mem .words) (m .frames - 1) 6; forms = forms′ })
+        unfolding machineOf modeOf pieceIn openForms defined
+        runs start end absent is in-order inside =
+            let h = r .holds in (
+              takes-next (by-definition absent _ is ∙ same-machine refl refl (sym due-frames) refl (sym (add-one (m .steps)))),
+              record {
+                words-size = length-set (mem .words) (m .frames - 1) 6 ∙ h .words-size;
+                forms-size = simp length-set (h .forms-size);
+                few = omega arith;
+                counted = rw due-frames (omega (arith, under-counted));
+                from = in-order;
+                to = rw add-one inside;
+                placed = opened-placed sheet question (mem .words) (mem .forms) (m .frames) (m .forms) (nodeOf held) a (toWord (m .value)) (m .at) (m .end) (omega arith) form-fits
+                    (ap toWord parameter-is) (h .from) (h .to) (h .placed);
+                entries = entries;
+                stored = h .stored;
+              },
+              room,
+            )
+
+        -- a rule, of which an accepted sheet has one where it has no figure
+        opens : kept entries due ≡ none → getD index (figurePlace (nodeOf held) a) 0 ≡ 0 → (i : ℕ) → ruleIndex sheet index attributes (nodeOf held) a ≡ i
+            → Matches sheet question capacity budget limit m M (openRule sheet index attributes mem m (nodeOf held) a (toWord (m .value)))
+        unfolding openRule indexed figured ruled isDefined pieceIn restOf pieceAt
+        opens absent no-figure zero e =
+            absurd (false≢true (rw (definition-at, no-figure, e) at (pair-defined sheet s (r .accepts) (nodeOf held) a (due-in .node-declared) (due-in .attribute-declared))))
+        opens absent no-figure (suc at) e =
+            let p = due-in .node-declared in
+            let q = due-in .attribute-declared in
+            let kind = kind-by-index sheet s index (r .index-of) (nodeOf held) p in
+            let fits = r .index-of .rule-fits _ a at (r .index-of .kinds-bound (nodeOf held) p) q (rw (kind, r .attributes-are) e) in
+            let length-at : suc at + 2 ≡ at + 3 = omega arith in
+            let piece-at : suc at + 4 ≡ at + 5 = omega arith in
+            let width : at + 5 + ofBytes (take 2 (drop (at + 3) sheet)) - (at + 5) ≡ ofBytes (take 2 (drop (at + 3) sheet)) = omega arith in
+            runs _ _ absent (definition-at ∙ rw (no-figure, e, length-at, piece-at, width, add-one)) (omega arith) (rw (e, length-at, piece-at) (fits .0))
+
+        figure-in : (at : ℕ) → getD index (figurePlace (nodeOf held) a) 0 ≡ suc at
+            → IsA (nodeCount s) (attributeAt (s .attributes) a .result) (figureAt sheet a at)
+        unfolding figureAt
+        figure-in at e =
+            rw attribute-is (word-in _ _ _ (r .index-of .figure-fits (nodeOf held) a at (due-in .node-declared) (due-in .attribute-declared) e .1))
+
+        figures : kept entries due ≡ none → (i : ℕ) → getD index (figurePlace (nodeOf held) a) 0 ≡ i
+            → Matches sheet question capacity budget limit m M
+            (openFigure sheet index attributes mem m (nodeOf held) a (toWord (m .value)) (indexed i (figureAt sheet a)))
+        unfolding openFigure indexed figured defined
+        figures absent zero e = opens absent e _ refl
+        figures absent (suc at) e =
+            answers _ _ _ (write-at due (figureAt sheet a at) due-in (figure-in at e))
+            (by-definition absent (figure (figureAt sheet a at)) (definition-at ∙ rw e) ∙ same-machine refl refl refl (rw (entries-are, ← room)) refl)
+
+        takes-kept : (f : Option ℕ) → findKey (mem .store) (m .kept) (keyOf due) ≡ f
+            → Matches sheet question capacity budget limit m M (takeKept sheet index attributes mem m (nodeOf held) a f)
+        unfolding takeKept applied
+        takes-kept none e = figures (by-key _ _ _ (r .holds .stored) .missing due due-in e) _ refl
+        takes-kept (some j) e =
+            let found = rw attribute-is at (by-key _ _ _ (r .holds .stored) .found due j due-in e) in
+            answers _ entries (mem .store, m .kept) (record { passes = r .holds .stored; same-length = refl })
+            (ap (applied s capacity budget M due under) found ∙ same-machine refl refl refl entries-are refl)
+
+      pub attribute-matches : Matches sheet question capacity budget limit m M (attributeDue sheet index attributes budget limit mem m (nodeOf held) a)
+      unfolding attributeDue machineOf Machine.attributeDue reasonNumber
+      attribute-matches =
+          either P (eqb (nodeOf held) null) (λ null. (null-node, at-frame ∙ rw null, refl))
+          (λ no-null. either P (leb budget (m .steps)) (λ used. (spent, at-frame ∙ rw (no-null, le-ltb (m .steps) budget (leb-true _ _ used)), refl))
+          (λ unused. let left = leb-false budget (m .steps) unused in
+          either P (leb 64 (m .forms)) (λ deep. (depth, at-frame ∙ rw (no-null, lt-ltb (m .steps) budget left, under-counted, deep), refl))
+          (λ few. either P (leb limit (m .steps)) (λ reached. (leb-true limit (m .steps) reached, left))
+          (λ _. takes-kept no-null left (leb-false 64 (m .forms) few) _ refl))))
+        where
+          P : Stepped → Type 0
+          P st = Matches sheet question capacity budget limit m M st

@@ -1,0 +1,209 @@
+-- What a move does to the store's bytes: nothing, or an entry is written behind those that are kept. So the bytes stay those that a
+-- call leaves.
+use mathlib.Core.Bool.{Bool, true, false, and-eq-true-iff}
+use mathlib.Core.Option.{Option, none, some}
+use mathlib.Core.List.{List, [], _∷_, _++_, append-assoc}
+use mathlib.Core.Path.{_≡_, refl, _∙_, ap}
+use Prim.Native.Nat.{ℕ, zero, suc, _+_, _*_, _/_, _%_, _≤_, _<_}
+use native.Mathlib.Numerals.{add-one}
+use native.Mathlib.Omega.{arith}
+use lib.Dec.{leb, eqb}
+use lib.ListN.{length, take, drop, getD, length-take, length-append, length-drop}
+use lib.Seq.{take-at, drop-at, length-take-le}
+use borrow.Author.Tests.{leb-false}
+use Rattle.specs.specs.Values.{null, ofBytes, toBytes, isWord, truth}
+use Rattle.specs.specs.declared.Value.{Value}
+use Rattle.specs.specs.Expressions.{Head, base-literal, function-literal, if-head, application-head, attribute-head, this-head, parameter-head, no-head, headOf}
+use Rattle.specs.specs.Types.{attributeAt}
+use Rattle.specs.specs.Sheet.{Sheet, nodeCount, accepted}
+use Rattle.specs.specs.Caching.{Entry}
+use Rattle.specs.specs.Store.{entryBytes, entryOf, isEntry, readEntries, checkStore, leftStore}
+use Rattle.specs.proofs.Words.{word-trip}
+use Rattle.specs.proofs.Entries.{first-bytes, store-in}
+use Rattle.stores.specs.Keys.{Key, findKey, entriesIn, recordOf, putAt}
+use Rattle.stores.proofs.Entries.{entries-are, entries-last}
+use Rattle.stores.proofs.Written.{left-more}
+use Rattle.engine.specs.Steps.{Memory, Stepped, goes, waits, finishes, stops, readHead, appended, unlessFound, cacheWrite, closeForm, takeIf, within, openRule, openFigure, takeKept, attributeDue, give, readNext, stepOf}
+use Rattle.engine.specs.declared.Registers.{Registers}
+use Rattle.engine.proofs.Words.{by-test}
+
+-- ---- Moves
+
+-- The store and the kept number after a move: as before, or with one record more.
+pub data Changed (store : List ℕ) (kept : ℕ) (store′ : List ℕ) (kept′ : ℕ) : Type 0 where
+  same : store′ ≡ store → kept′ ≡ kept → Changed store kept store′ kept′
+  more : (q : Key) (w : ℕ) → kept < length store / 12 → store′ ≡ appended store kept q w → kept′ ≡ kept + 1 → Changed store kept store′ kept′
+
+unchanged : {store : List ℕ} {kept : ℕ} → Changed store kept store kept
+unchanged = same refl refl
+
+write-changes : (store : List ℕ) (kept : ℕ) (q : Key) (w : ℕ) → Changed store kept (cacheWrite store kept q w .0) (cacheWrite store kept q w .1)
+unfolding cacheWrite unlessFound
+write-changes store kept q w =
+    by-test P (leb (length store / 12) kept) (λ _. unchanged) (λ room. go (leb-false _ _ room) (findKey store kept q))
+  where
+    P : List ℕ × ℕ → Type 0
+    P r = Changed store kept (r .0) (r .1)
+
+    go : kept < length store / 12 → (f : Option ℕ) → P (unlessFound store kept q w f)
+    go room none = more q w room refl refl
+    go room (some j) = unchanged
+
+abbrev Moves : Memory → Registers → Stepped → Type 0
+Moves mem m (goes m′ mem′) = Changed (mem .store) (m .kept) (mem′ .store) (m′ .kept)
+Moves mem m waits = Unit {0}
+Moves mem m finishes = Unit {0}
+Moves mem m (stops n) = Unit {0}
+
+module _ (sheet index : List ℕ) (attributes : ℕ) (mem : Memory) (m : Registers) where
+  abbrev P : Stepped → Type 0
+  P = Moves mem m
+
+  reads-moves : (h : Head) (l : List ℕ) → P (readHead sheet mem m h l)
+  unfolding readHead
+  reads-moves (base-literal t) l = unchanged
+  reads-moves function-literal l = unchanged
+  reads-moves if-head l = unchanged
+  reads-moves application-head l = unchanged
+  reads-moves attribute-head l = unchanged
+  reads-moves this-head l = unchanged
+  reads-moves parameter-head l = unchanged
+  reads-moves no-head l = tt
+
+  next-moves : (l : List ℕ) → P (readNext sheet index attributes mem m l)
+  unfolding readNext
+  next-moves [] = tt
+  next-moves (c ∷ l) = reads-moves (headOf c) l
+
+  within-moves : (budget limit : ℕ) (next : Stepped) → P next → P (within budget limit m next)
+  unfolding within
+  within-moves budget limit next h = by-test P (leb budget (m .steps)) {x = stops 15} (λ _. tt) λ _. by-test P (leb limit (m .steps)) {x = waits} (λ _. tt) λ _. h
+
+  if-moves : (skip : ℕ) (b : Bool) → P (takeIf skip mem m b)
+  unfolding takeIf
+  if-moves skip true = unchanged
+  if-moves skip false = unchanged
+
+  figure-moves : (n a word : ℕ) (f : Option Value) → P (openFigure sheet index attributes mem m n a word f)
+  unfolding openFigure openRule
+  figure-moves n a word none = unchanged
+  figure-moves n a word (some v) = write-changes (mem .store) (m .kept) _ _
+
+  kept-moves : (n a : ℕ) (f : Option ℕ) → P (takeKept sheet index attributes mem m n a f)
+  unfolding takeKept
+  kept-moves n a none = figure-moves n a _ _
+  kept-moves n a (some j) = unchanged
+
+  attribute-moves : (budget limit n a : ℕ) → P (attributeDue sheet index attributes budget limit mem m n a)
+  unfolding attributeDue
+  attribute-moves budget limit n a =
+      by-test P (eqb n null) {x = stops 14} (λ _. tt) λ _.
+      by-test P (leb budget (m .steps)) {x = stops 15} (λ _. tt) λ _.
+      by-test P (leb 64 (m .forms)) {x = stops 16} (λ _. tt) λ _.
+      by-test P (leb limit (m .steps)) {x = waits} (λ _. tt) λ _. kept-moves n a _
+
+  give-moves : (budget limit skip packed w : ℕ) → P (give sheet index attributes budget limit skip packed mem m w)
+  unfolding give closeForm
+  give-moves budget limit skip packed w =
+      by-test P (eqb (w % 8) 0) (λ _. within-moves budget limit _ (if-moves skip (truth (m .value)))) λ _.
+      by-test P (eqb (w % 8) 1) (λ _. unchanged) λ _.
+      by-test P (eqb (w % 8) 2) (λ _. unchanged) λ _.
+      by-test P (eqb (w % 8) 3) (λ _. within-moves budget limit _ unchanged) λ _.
+      by-test P (eqb (w % 8) 4) (λ _. unchanged) λ _.
+      by-test P (eqb (w % 8) 6) (λ _. write-changes (mem .store) (m .kept) _ _) λ _.
+      attribute-moves budget limit _ _
+
+  store-moves-to : (question : List ℕ) (budget limit skip packed : ℕ) → P (stepOf sheet index attributes question budget limit skip packed mem m)
+  unfolding stepOf
+  store-moves-to question budget limit skip packed =
+      by-test P (m .returning)
+      (λ _. by-test P (eqb (m .frames) 0) {x = finishes} (λ _. tt) (λ _. give-moves budget limit skip packed _))
+      (λ _. next-moves _)
+
+  pub store-moves : (question : List ℕ) (budget limit skip packed : ℕ) {m′ : Registers} {mem′ : Memory}
+      → stepOf sheet index attributes question budget limit skip packed mem m ≡ goes m′ mem′
+      → Changed (mem .store) (m .kept) (mem′ .store) (m′ .kept)
+  store-moves question budget limit skip packed e = rw e at (store-moves-to question budget limit skip packed)
+
+-- ---- Bytes
+
+bytes-again : (k n : ℕ) → toBytes k (ofBytes (toBytes k n)) ≡ toBytes k n
+unfolding toBytes ofBytes
+bytes-again zero n = refl
+bytes-again (suc k) n =
+    let rest = ofBytes (toBytes k (n / 256)) in
+    let low : (n % 256 + 256 * rest) % 256 ≡ n % 256 = omega arith in
+    let high : (n % 256 + 256 * rest) / 256 ≡ rest = omega arith in
+    rw (low, high, bytes-again k (n / 256))
+
+-- the words of a record that passes
+record-words : (s : Sheet) (before : List Entry) (l : List ℕ) → isEntry s before l ≡ true
+    → (isWord (nodeCount s) (attributeAt (s .attributes) (getD l 2 0) .parameter-type) (ofBytes (take 4 (drop 4 l))) ≡ true)
+    × (isWord (nodeCount s) (attributeAt (s .attributes) (getD l 2 0) .result) (ofBytes (take 4 (drop 8 l))) ≡ true)
+unfolding isEntry
+record-words s before l e = let t = simp and-eq-true-iff at e in (t .0 .0 .1, t .0 .1)
+
+-- A record that passes is the bytes of the entry that is read from it.
+record-trip : (s : Sheet) (before : List Entry) (q : Key) (w : ℕ) → isEntry s before (recordOf q w) ≡ true → entryBytes (entryOf s (recordOf q w)) ≡ recordOf q w
+unfolding entryBytes entryOf recordOf toBytes
+record-trip s before q w passes =
+    let (p, v) = record-words s before (recordOf q w) passes in
+    let parameter = ap (toBytes 4) (word-trip _ _ _ p) ∙ bytes-again 4 (q .word) in
+    let value = ap (toBytes 4) (word-trip _ _ _ v) ∙ bytes-again 4 w in
+    λ i. bytes-again 2 (q .node) i ++ q .attribute ∷ 0 ∷ parameter i ++ value i
+
+-- ---- The store with one record more
+
+module _ (s : Sheet) (store : List ℕ) (k : ℕ) (q : Key) (w : ℕ) (room : k < length store / 12) where
+  abbrev after : List ℕ
+  after = appended store k q w
+
+  front-length : length (take (12 * k) store) ≡ 12 * k
+  front-length = length-take-le (12 * k) store (omega arith)
+
+  record-length : length (recordOf q w) ≡ 12
+  unfolding recordOf toBytes
+  record-length = refl
+
+  after-is : after ≡ take (12 * k) store ++ (recordOf q w ++ drop (12 * k + 12) store)
+  unfolding appended recordOf
+  after-is = append-assoc (take (12 * k) store) (recordOf q w) (drop (12 * k + 12) store)
+
+  after-put : after ≡ putAt store k (recordOf q w)
+  unfolding appended putAt recordOf
+  after-put = refl
+
+  after-length : length after ≡ length store
+  after-length = rw after-is (simp (length-append, length-take, length-drop, record-length) (omega arith))
+
+  record-at : take 12 (drop (12 * k) after) ≡ recordOf q w
+  record-at = rw (after-is, drop-at (take (12 * k) store) (recordOf q w ++ drop (12 * k + 12) store) (12 * k) front-length) (take-at (recordOf q w) _ 12 record-length)
+
+  same-front : take (12 * k) after ≡ take (12 * k) store
+  same-front = rw after-is (take-at (take (12 * k) store) _ (12 * k) front-length)
+
+  -- What is read is one entry more, whose bytes the record is.
+  one-more : (es es′ : List Entry) → checkStore s store k ≡ accepted es → checkStore s after (k + 1) ≡ accepted es′
+      → (e : Entry) × (es′ ≡ es ++ e ∷ []) × (entryBytes e ≡ recordOf q w)
+  unfolding entriesIn
+  one-more es es′ before passes =
+      let reads : readEntries s (suc k) [] after ≡ accepted es′ = rw add-one at (store-in s after (k + 1) es′ passes .reads) in
+      let all = entries-are s after (suc k) es′ reads in
+      let last = entries-last s after k (rw all at reads) in
+      let first : readEntries s k [] after ≡ accepted es = first-bytes s k [] store after same-front ∙ store-in s store k es before .reads in
+      let olds : es ≡ entriesIn s after k = entries-are s after k es first in
+      (entryOf s (recordOf q w), all ∙ rw (record-at, ← olds) refl, record-trip s (entriesIn s after k) q w (rw record-at at (last .passes)))
+
+-- The bytes stay those that a call leaves which was lent the store `first` with so many kept entries.
+pub left-on : (s : Sheet) (first : List ℕ) (lent : ℕ) {store : List ℕ} {k : ℕ} {store′ : List ℕ} {k′ : ℕ} {es es′ : List Entry}
+    → Changed store k store′ k′ → checkStore s store k ≡ accepted es → checkStore s store′ k′ ≡ accepted es′
+    → length store ≡ length first → lent ≤ k → store ≡ leftStore first lent es
+    → (store′ ≡ leftStore first lent es′) × (length store′ ≡ length first) × (lent ≤ k′)
+left-on s first lent {es} {es′} (same e f) before passes size enough left =
+    let entries : es ≡ es′ = let p = rw (e, f) at passes in cc in
+    (rw (e, ← entries) left, rw e size, rw f enough)
+left-on s first lent {store} {k} {es} {es′} (more q w room e f) before passes size enough left =
+    let (n, appends, bytes) = one-more s store k q w room es es′ before (rw (e, f) at passes) in
+    let count = store-in s store k es before .count in
+    let grown = left-more first lent es (omega arith) (omega arith) n in
+    (cc (after-put s store k q w room), rw (e, after-length s store k q w room) size, rw f (omega arith))

@@ -1,0 +1,11 @@
+pub mod Words
+pub mod Steps
+pub mod Writing
+pub mod Attributes
+pub mod Kept
+pub mod Widths
+pub mod Reading
+pub mod Ready
+pub mod Whole
+pub mod Left
+pub mod Loop

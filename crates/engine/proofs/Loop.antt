@@ -1,0 +1,269 @@
+-- The run, move by move: it starts where a question is accepted, every move keeps the invariant and makes the measure fall, and when
+-- the moves end, registers and memory have what the run leaves.
+use mathlib.Core.Bool.{Bool, true, false, cond, false≢true}
+use mathlib.Core.List.{List, [], append-nil}
+use mathlib.Core.Path.{_≡_, refl, sym, _∙_, ap, subst}
+use Prim.Native.Nat.{ℕ, suc, _/_, _≤_, _<_}
+use native.Mathlib.Nat.{sub-zero}
+use native.Mathlib.Omega.{arith}
+use lib.Dec.{ltb, leb}
+use lib.ListN.{length, take-append-drop}
+use lib.Seq.{take-length, drop-length}
+use borrow.Author.Tests.{leb-true, le-leb}
+use Rattle.specs.specs.Values.{Ty, base}
+use Rattle.specs.specs.declared.Value.{Value}
+use Rattle.specs.specs.declared.Value.the-variants.{Unit as unit}
+use Rattle.specs.specs.Sheet.{Sheet, nodeCount, attributeCount, accepted, checkSheet, questionScope, context}
+use Rattle.specs.specs.Caching.{Entry, Due, State, Ending, with-value, Reason, by, Ended, dueAt}
+use Rattle.specs.specs.Store.{checkStore, entriesBytes, leftStore}
+use Rattle.specs.specs.Expressions.{Expr, Whole, no-expression, readWhole}
+use Rattle.specs.specs.Ask.{checkType, checkQuestion, asked, reasonNumber, endedAnswer, outcome, runQuestion, afterQuestion, afterStore, afterSheet, ask}
+use Rattle.specs.proofs.Sound.{TermIn, EntryIn, All}
+use Rattle.specs.proofs.Accepted.{accepted-sheet}
+use Rattle.specs.proofs.Entries.{store-in}
+use Rattle.specs.proofs.Ends.{Runs, counted-within}
+use Rattle.specs.proofs.Preservation.{put-in, DueIn, due-in}
+use Rattle.specs.proofs.Calls.{question-runs, question-in}
+use Rattle.sheets.specs.Scan.{Indexed}
+use Rattle.pieces.specs.Pieces.{pieceIn, restOf}
+use Rattle.machine.specs.Machine.{Machine, Next, by-move, by-step, openForms, stateOf}
+use Rattle.machine.specs.Good.{Pieces, Good}
+use Rattle.machine.proofs.Bounds.{measure, move-falls, small-on, start-small}
+use Rattle.machine.proofs.Simulation.{Uncounted, same, written, simulates, good-on, runs-on}
+use Rattle.machine.proofs.Start.{start, question-start, pieces}
+use Rattle.engine.specs.Decode.{sheetIn, sheetOf, entriesOf, framesIn, modeOf, machineOf}
+use Rattle.engine.specs.Steps.{Memory, Stepped, goes, waits, stepOf}
+use Rattle.engine.specs.Steps as Steps
+use Rattle.engine.specs.declared.Registers.{Registers}
+use Rattle.engine.specs.Represents.{machineIn, HoldsIn, Represents, Matches, WidthOf, Packs}
+use Rattle.engine.specs.Loop.{Invariant, started, Final}
+use Rattle.engine.proofs.Whole.{step-whole}
+use Rattle.engine.proofs.Left.{store-moves, left-on}
+
+-- ---- The start
+
+question-short : (s : Sheet) (q : List ℕ) (e : Expr) → checkQuestion s q ≡ accepted e → length q ≤ 256
+unfolding checkQuestion checkType readWhole
+question-short s q e h = go (leb (length q) 256) _ refl h
+  where
+    go : (b : Bool) (w : Whole) → leb (length q) 256 ≡ b → checkType s (cond b w no-expression) ≡ accepted e → length q ≤ 256
+    go true w t h = leb-true _ _ t
+    go false w t h = absurd (let z : _≡_ {A = ℕ} 0 1 = cc in omega arith)
+
+module _ (sheet question store words forms : List ℕ) (kept : ℕ) (any : Value) (entries : List Entry) (passes : checkStore (sheetOf sheet) store kept ≡ accepted entries) where
+  abbrev lent-memory : Memory
+  lent-memory = record { store = store; words = words; forms = forms }
+
+  start-machine : machineIn sheet question lent-memory (started question kept any) ≡ start question entries
+  unfolding machineOf modeOf framesIn restOf pieceIn entriesOf
+  start-machine = rw (passes, sub-zero, take-length)
+
+  start-holds : length words ≡ 16640 → length forms ≡ 256 → HoldsIn sheet question lent-memory (started question kept any)
+  unfolding framesIn openForms pieceIn
+  start-holds words-size forms-size =
+      record {
+        words-size = words-size;
+        forms-size = forms-size;
+        few = omega arith;
+        counted = refl;
+        from = omega arith;
+        to = omega arith;
+        placed = λ k h. absurd (omega arith);
+        entries = entries;
+        stored = passes;
+      }
+
+-- what a call leaves that keeps nothing more
+left-none : (store : List ℕ) (kept : ℕ) (entries : List Entry) → length entries ≡ kept → leftStore store kept entries ≡ store
+unfolding leftStore entriesBytes
+left-none store kept entries count = rw (← count, drop-length, append-nil, take-append-drop)
+
+start-at : (sheet index question : List ℕ) (attributes budget : ℕ) (store words forms : List ℕ) (kept : ℕ) (any : Value) (entries : List Entry) (e : Expr)
+    → checkSheet sheet ≡ accepted (sheetOf sheet) → Indexed sheet (sheetOf sheet) index → attributeCount (sheetOf sheet) ≡ attributes
+    → checkStore (sheetOf sheet) store kept ≡ accepted entries → checkQuestion (sheetOf sheet) question ≡ accepted e
+    → length words ≡ 16640 → length forms ≡ 256
+    → Invariant sheet index question attributes budget store kept (runQuestion (sheetOf sheet) (length store / 12) budget entries e)
+    record { store = store; words = words; forms = forms } (started question kept any)
+unfolding asked questionScope
+start-at sheet index question attributes budget store words forms kept any entries e accepts index-of attributes-are passes form words-size forms-size =
+    let s = sheetOf sheet in
+    let machine = start-machine sheet question store words forms kept any entries passes in
+    let (good, state) = question-start s question e form entries in
+    let (B, typed) = question-in sheet s accepts question e form in
+    let count = store-in s store kept entries passes .count in
+    record {
+      represents = record {
+        accepts = accepts;
+        index-of = index-of;
+        attributes-are = attributes-are;
+        holds = start-holds sheet question store words forms kept any entries passes words-size forms-size;
+        good = rw machine good;
+        small = rw machine (start-small (start question entries) refl (question-short s question e form) .0);
+        type = B;
+        typed = rw (machine, state) (put-in 0 unit (λ n. absurd (false≢true n)) (λ n. absurd (false≢true n)) typed);
+      };
+      runs = rw (machine, state) (question-runs s (length store / 12) budget entries e);
+      left = rw machine (sym (left-none store kept entries count));
+      room = refl;
+      lent-kept = omega arith;
+      within = omega arith;
+    }
+
+sheet-is : (sheet : List ℕ) (s : Sheet) → checkSheet sheet ≡ accepted s → s ≡ sheetOf sheet
+unfolding sheetIn
+sheet-is sheet s ok = rw ok
+
+pub invariant-start : (sheet index question : List ℕ) (attributes budget : ℕ) (store words forms : List ℕ) (kept : ℕ) (any : Value)
+    (s : Sheet) (entries : List Entry) (e : Expr)
+    → checkSheet sheet ≡ accepted s → Indexed sheet s index → attributeCount s ≡ attributes → checkStore s store kept ≡ accepted entries
+    → checkQuestion s question ≡ accepted e → length words ≡ 16640 → length forms ≡ 256
+    → Invariant sheet index question attributes budget store kept (runQuestion s (length store / 12) budget entries e)
+    record { store = store; words = words; forms = forms } (started question kept any)
+invariant-start sheet index question attributes budget store words forms kept any s entries e accepts index-of attributes-are passes form words-size forms-size =
+    let same = sheet-is sheet s accepts in
+    rw same
+    (start-at sheet index question attributes budget store words forms kept any entries e (rw same at accepts) (rw same at index-of) (rw same at attributes-are)
+    (rw same at passes) (rw same at form) words-size forms-size)
+
+-- ---- A move of the machine
+
+module _ (s : Sheet) (bytes : List ℕ) (ok : checkSheet bytes ≡ accepted s) (capacity budget : ℕ) (T : Ty) where
+  -- a state of a type, whose entries are of theirs
+  abbrev Typed : State → Type 0
+  Typed st = All (EntryIn (nodeCount s) (s .attributes)) (st .entries) × TermIn (nodeCount s) (s .attributes) (st .term) T
+
+  is-due : (st : State) → Typed st → {d : Due} → dueAt (context s) capacity budget st ≡ d → DueIn (nodeCount s) (s .attributes) T d
+  unfolding dueAt
+  is-due st (all, t) e =
+      subst (DueIn (nodeCount s) (s .attributes) T) e
+      (due-in (nodeCount s) (s .attributes) (context s) (accepted-sheet bytes s ok .context-in) (st .entries) all (ltb (st .steps) budget) [] (st .term) T t)
+
+  uncounted-in : (st st′ : State) → Typed st → Uncounted s capacity budget st st′
+      → TermIn (nodeCount s) (s .attributes) (st′ .term) T × (st′ .steps ≡ st .steps)
+  uncounted-in st st′ t (same is) = rw is (t .1, refl)
+  uncounted-in st st′ t (written e u d is) = rw is (is-due st t d .1, refl)
+
+  next-in : (M M′ : Machine) → Good s M → Typed (stateOf s M) → M .steps ≤ budget → Next s capacity budget M M′
+      → TermIn (nodeCount s) (s .attributes) (stateOf s M′ .term) T × (M′ .steps ≤ budget)
+  unfolding stateOf
+  next-in M M′ good t within (by-move e) =
+      let (u, f) = uncounted-in (stateOf s M) (stateOf s M′) t (rw e at (simulates s capacity budget (pieces bytes s ok) M good)) in
+      (u, omega arith)
+  next-in M M′ good t within (by-step r e) =
+      let (u, d, n) = rw e at (simulates s capacity budget (pieces bytes s ok) M good) in
+      let less = counted-within (context s) capacity budget (stateOf s M) u r d in
+      let (v, f) = uncounted-in (record { term = u; entries = M .entries; steps = suc (M .steps) }) (stateOf s M′) (t .0, is-due (stateOf s M) t d) n in
+      (v, omega arith)
+
+-- ---- A move of the code
+
+entries-are : (sheet question : List ℕ) (mem : Memory) (m : Registers) (h : HoldsIn sheet question mem m) → machineIn sheet question mem m .entries ≡ h .entries
+unfolding machineOf entriesOf
+entries-are sheet question mem m h = rw (h .stored)
+
+module _ {sheet index question : List ℕ} {attributes budget : ℕ} {first : List ℕ} {lent : ℕ} {whole : Ended} {mem : Memory} {m : Registers}
+    (inv : Invariant sheet index question attributes budget first lent whole mem m) where
+  abbrev s : Sheet
+  s = sheetOf sheet
+
+  abbrev M : Machine
+  M = machineIn sheet question mem m
+
+  abbrev capacity : ℕ
+  capacity = length (mem .store) / 12
+
+  abbrev r : Represents sheet index question attributes mem m
+  r = inv .represents
+
+  abbrev rules : Pieces s
+  rules = pieces sheet s (r .accepts)
+
+  runs : Runs (context s) capacity budget (stateOf s M) whole
+  runs = rw (inv .room) (inv .runs)
+
+  typed : Typed s sheet (r .accepts) capacity budget (base (r .type)) (stateOf s M)
+  unfolding stateOf
+  typed = (rw (entries-are sheet question mem m (r .holds)) (store-in s (mem .store) (m .kept) _ (r .holds .stored) .entries-in), r .typed)
+
+  -- a machine that is next, by either kind of move
+  next-good : {M′ : Machine} → Next s capacity budget M M′ → Good s M′
+  next-good (by-move e) = good-on s capacity budget rules M (r .good) e
+  next-good (by-step c e) = good-on s capacity budget rules M (r .good) e
+
+  next-runs : {M′ : Machine} → Next s capacity budget M M′ → Runs (context s) capacity budget (stateOf s M′) whole
+  next-runs (by-move e) = runs-on s capacity budget rules M (r .good) e runs
+  next-runs (by-step c e) = runs-on s capacity budget rules M (r .good) e runs
+
+  ended : (ending : Ending) → whole ≡ record { ending = ending; entries = M .entries; steps = M .steps } → Final first lent whole ending mem m
+  unfolding machineOf
+  ended ending is =
+      record {
+        ending-is = ap (λ w. w .ending) is;
+        steps-are = ap (λ w. w .steps) is;
+        kept-are = ap (λ w. length (w .entries)) is ∙ ap length (entries-are sheet question mem m (r .holds)) ∙ store-in s (mem .store) (m .kept) _ (r .holds .stored) .count;
+        store-is = rw is (inv .left);
+      }
+
+  module _ (limit skip packed : ℕ) (width : WidthOf (restOf sheet question (m .forms) (m .at) (m .end)) skip) (packs : Packs (m .value) packed) where
+    abbrev step : Stepped
+    step = stepOf sheet index attributes question budget limit skip packed mem m
+
+    matches : {st : Stepped} → step ≡ st → Matches sheet question capacity budget limit m M st
+    matches e = subst (Matches sheet question capacity budget limit m M) e (step-whole sheet index question attributes budget limit skip packed mem m r width packs)
+
+    module _ {m′ : Registers} {mem′ : Memory} (e : step ≡ goes m′ mem′) where
+      pub invariant-on : Invariant sheet index question attributes budget first lent whole mem′ m′
+      unfolding machineOf
+      invariant-on =
+          let (next, holds, size) = matches e in
+          let M′ = machineIn sheet question mem′ m′ in
+          let (of-type, within) = next-in s sheet (r .accepts) capacity budget (base (r .type)) M M′ (r .good) typed (inv .within) next in
+          let changed = store-moves sheet index attributes mem m question budget limit skip packed e in
+          let was = rw (entries-are sheet question mem m (r .holds)) at (inv .left) in
+          let (left, room, lent-kept) = left-on s first lent changed (r .holds .stored) (holds .stored) (inv .room) (inv .lent-kept) was in
+          record {
+            represents = record {
+              accepts = r .accepts;
+              index-of = r .index-of;
+              attributes-are = r .attributes-are;
+              holds = holds;
+              good = next-good next;
+              small = small-on rules (r .small) next;
+              type = r .type;
+              typed = of-type;
+            };
+            runs = rw (← size, room) at (next-runs next);
+            left = rw (entries-are sheet question mem′ m′ holds) left;
+            room = room;
+            lent-kept = lent-kept;
+            within = within;
+          }
+
+      pub invariant-falls : measure budget (machineIn sheet question mem′ m′) < measure budget M
+      invariant-falls = move-falls rules (r .good) (matches e .0)
+
+    pub invariant-waits : limit ≡ budget → step ≡ waits → ⊥
+    invariant-waits f e = let (reached, left) = matches e in omega arith
+
+    pub invariant-finishes : step ≡ Steps.finishes → Final first lent whole (with-value (m .value)) mem m
+    invariant-finishes e = ended (with-value (m .value)) (runs-on s capacity budget rules M (r .good) (matches e) runs)
+
+    pub invariant-stops : {n : ℕ} → step ≡ Steps.stops n → (c : Reason) × (reasonNumber c ≡ n) × Final first lent whole (by c) mem m
+    invariant-stops e =
+        let (c, stopped, number) = matches e in
+        (c, number, ended (by c) (runs-on s capacity budget rules M (r .good) stopped runs))
+
+-- ---- The answer
+
+-- what the call brings, of an accepted sheet, store, budget and question
+pub invariant-answer : (sheet question : List ℕ) (budget : ℕ) (store : List ℕ) (kept : ℕ) (s : Sheet) (entries : List Entry) (e : Expr)
+    → checkSheet sheet ≡ accepted s → checkStore s store kept ≡ accepted entries → budget ≤ 1000000 → checkQuestion s question ≡ accepted e
+    → ask sheet store kept question budget ≡ outcome store kept (runQuestion s (length store / 12) budget entries e)
+unfolding ask afterSheet afterStore afterQuestion
+invariant-answer sheet question budget store kept s entries e accepts passes permitted form = rw (accepts, passes, le-leb budget 1000000 permitted, form)
+
+-- and what it brings, by registers and memory at the end of its run
+pub final-outcome : {first : List ℕ} {lent : ℕ} {whole : Ended} {ending : Ending} {mem : Memory} {m : Registers} → Final first lent whole ending mem m
+    → outcome first lent whole ≡ record { answer = endedAnswer ending (m .steps) (m .kept); store = mem .store }
+unfolding outcome
+final-outcome f = rw (f .ending-is, f .steps-are, f .kept-are, f .store-is)

@@ -1,0 +1,97 @@
+-- The machine that registers and lent memory hold.
+use mathlib.Core.Bool.{Bool, true, false, cond}
+use mathlib.Core.List.{List, [], _∷_}
+use mathlib.Core.Path.{_≡_}
+use Prim.Native.Nat.{ℕ, zero, suc, _+_, _*_, _-_, _/_, _%_, _≤_, _<_}
+use lib.Dec.{eqb}
+use lib.ListN.{length, take, drop, getD}
+use Rattle.specs.specs.Values.{Base, base, baseOf, ofWord, toWord}
+use Rattle.specs.specs.declared.Value.{Value}
+use Rattle.specs.specs.Expressions.{Expr}
+use Rattle.specs.specs.Sheet.{Sheet, emptySheet, nodeCount, attributeCount, Checked, refused, accepted, checkSheet}
+use Rattle.specs.specs.Terms.{Occurrence}
+use Rattle.specs.specs.Caching.{Entry}
+use Rattle.specs.specs.Store.{checkStore}
+use Rattle.specs.specs.Ask.{checkQuestion}
+use Rattle.pieces.specs.Pieces.{pieceIn, restOf}
+use Rattle.frames.specs.Words.{valueIn}
+use Rattle.machine.specs.Machine.{Frame, on-if, on-left, on-skip, on-right, on-node, on-parameter, on-form, Mode, evaluating, returning, Machine, openForms, stateOf}
+use Rattle.engine.specs.declared.Registers.{Registers}
+
+-- the sheet that accepted bytes are
+unfoldable pub sheetIn : Checked Sheet → Sheet
+sheetIn (refused number place) = emptySheet
+sheetIn (accepted s) = s
+
+abbrev pub sheetOf : List ℕ → Sheet
+sheetOf bytes = sheetIn (checkSheet bytes)
+
+-- the entries of a store that passes
+unfoldable pub entriesOf : Checked (List Entry) → List Entry
+entriesOf (refused number place) = []
+entriesOf (accepted entries) = entries
+
+-- ---- Frames and forms
+
+-- A frame's word is its kind and eight times what it holds: a packed value, an attribute's number, or 32 times the one and the other.
+unfoldable pub plainFrame : ℕ → Frame
+plainFrame w =
+    cond (eqb (w % 8) 0) on-if
+    (cond (eqb (w % 8) 1) on-left
+    (cond (eqb (w % 8) 2) on-skip
+    (cond (eqb (w % 8) 3) (on-right (valueIn (w / 8 % 68719476736)))
+    (cond (eqb (w % 8) 4) (on-node (w / 8 % 32)) (on-parameter (valueIn (w / 256 % 68719476736)) (w / 8 % 32))))))
+
+-- A form is four words: its occurrence, as node × 32 + attribute and the parameter's four-byte form, and where the piece around it goes on and ends.
+unfoldable pub formOccurrence : List ℕ → List ℕ → ℕ → Occurrence
+formOccurrence sheet forms k =
+    let pair = getD forms (4 * k) 0 in
+    record {
+      node = pair / 32;
+      attribute = pair % 32;
+      parameter = ofWord (baseOf (getD sheet (3 * (pair % 32) + 2) 0)) (getD forms (4 * k + 1) 0);
+    }
+
+unfoldable pub formRest : List ℕ → List ℕ → List ℕ → ℕ → List ℕ
+formRest sheet question forms k = restOf sheet question k (getD forms (4 * k + 2) 0) (getD forms (4 * k + 3) 0)
+
+-- The first n words as frames, the innermost first, where k forms are open.
+unfoldable pub framesIn : List ℕ → List ℕ → List ℕ → List ℕ → ℕ → ℕ → List Frame
+framesIn sheet question words forms zero k = []
+framesIn sheet question words forms (suc n) k =
+    cond (eqb (getD words n 0 % 8) 6)
+    (on-form (formOccurrence sheet forms (k - 1)) (formRest sheet question forms (k - 1)) ∷ framesIn sheet question words forms n (k - 1))
+    (plainFrame (getD words n 0) ∷ framesIn sheet question words forms n k)
+
+-- ---- The machine
+
+unfoldable pub modeOf : Bool → Value → Mode
+modeOf true v = returning v
+modeOf false v = evaluating
+
+unfoldable pub machineOf : List ℕ → List ℕ → List ℕ → List ℕ → List ℕ → Registers → Machine
+machineOf sheet question store words forms m =
+    record {
+      mode = modeOf (m .returning) (m .value);
+      rest = restOf sheet question (m .forms) (m .at) (m .end);
+      frames = framesIn sheet question words forms (m .frames) (m .forms);
+      entries = entriesOf (checkStore (sheetOf sheet) store (m .kept));
+      steps = m .steps;
+    }
+
+-- What holds of the memory whenever the machine moves. A form's parameter is in its four-byte form, and its positions lie in the piece.
+pub record Placed (sheet question forms : List ℕ) (k : ℕ) : Type 0 where
+  pub word : toWord (formOccurrence sheet forms k .parameter) ≡ getD forms (4 * k + 1) 0
+  pub from : getD forms (4 * k + 2) 0 ≤ getD forms (4 * k + 3) 0
+  pub to : getD forms (4 * k + 3) 0 ≤ length (pieceIn sheet question k)
+
+pub record Holds (sheet question store words forms : List ℕ) (m : Registers) : Type 0 where
+  pub words-size : length words ≡ 16640
+  pub forms-size : length forms ≡ 256
+  pub few : m .forms ≤ 64
+  pub counted : length (openForms (framesIn sheet question words forms (m .frames) (m .forms))) ≡ m .forms
+  pub from : m .at ≤ m .end
+  pub to : m .end ≤ length (pieceIn sheet question (m .forms))
+  pub placed : (k : ℕ) → k < m .forms → Placed sheet question forms k
+  pub entries : List Entry
+  pub stored : checkStore (sheetOf sheet) store (m .kept) ≡ accepted entries

@@ -1,0 +1,5 @@
+pub mod Decode
+pub mod Steps
+pub mod Represents
+pub mod Ready
+pub mod Loop

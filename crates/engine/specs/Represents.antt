@@ -1,0 +1,56 @@
+-- What registers and lent memory must hold for a move of the code to be a move of the machine, and what is then the same.
+use mathlib.Core.List.{List}
+use mathlib.Core.Path.{_≡_}
+use Prim.Native.Nat.{ℕ, _+_, _*_, _/_, _≤_, _<_}
+use lib.ListN.{length}
+use Rattle.specs.specs.Values.{Base, base}
+use Rattle.specs.specs.declared.Value.{Value}
+use Rattle.specs.specs.Expressions.{Expr, Scope, reads, readExpr}
+use Rattle.specs.specs.Sheet.{Sheet, nodeCount, attributeCount, accepted, checkSheet}
+use Rattle.specs.specs.Caching.{Counted, Reason}
+use Rattle.specs.specs.Ask.{reasonNumber}
+use Rattle.specs.proofs.Sound.{TermIn}
+use Rattle.sheets.specs.Scan.{Indexed}
+use Rattle.frames.specs.Words.{valueIn}
+use Rattle.machine.specs.Machine.{Machine, Move, finishes, moves, takes, stops, move, openForms, stateOf}
+use Rattle.engine.specs.Decode.{sheetOf, machineOf, Holds}
+use Rattle.engine.specs.Steps.{Memory, Stepped, goes, waits}
+use Rattle.engine.specs.Steps as Steps
+use Rattle.engine.specs.declared.Registers.{Registers}
+use Rattle.machine.specs.Good.{Good, Small}
+use Rattle.machine.specs.Machine.{Next}
+
+-- the machine that registers and memory hold
+abbrev pub machineIn : List ℕ → List ℕ → Memory → Registers → Machine
+machineIn sheet question mem m = machineOf sheet question (mem .store) (mem .words) (mem .forms) m
+
+abbrev pub HoldsIn : List ℕ → List ℕ → Memory → Registers → Type 0
+HoldsIn sheet question mem m = Holds sheet question (mem .store) (mem .words) (mem .forms) m
+
+-- The sheet is accepted and indexed; registers and memory hold a machine that reads expressions, is small and is of a type.
+pub record Represents (sheet index question : List ℕ) (attributes : ℕ) (mem : Memory) (m : Registers) : Type 0 where
+  pub accepts : checkSheet sheet ≡ accepted (sheetOf sheet)
+  pub index-of : Indexed sheet (sheetOf sheet) index
+  pub attributes-are : attributeCount (sheetOf sheet) ≡ attributes
+  pub holds : HoldsIn sheet question mem m
+  pub good : Good (sheetOf sheet) (machineIn sheet question mem m)
+  pub small : Small (machineIn sheet question mem m)
+  pub type : Base
+  pub typed : TermIn (nodeCount (sheetOf sheet)) (sheetOf sheet .attributes) (stateOf (sheetOf sheet) (machineIn sheet question mem m) .term) (base type)
+
+-- What a move of the code comes to, for a machine M at a budget and a limit.
+module _ (sheet question : List ℕ) (capacity budget limit : ℕ) (m : Registers) (M : Machine) where
+  abbrev pub Matches : Stepped → Type 0
+  Matches (goes m′ mem′) =
+      Next (sheetOf sheet) capacity budget M (machineIn sheet question mem′ m′) × HoldsIn sheet question mem′ m′ × (length (mem′ .store) / 12 ≡ capacity)
+  Matches waits = (limit ≤ m .steps) × (m .steps < budget)
+  Matches Stepped.finishes = move (sheetOf sheet) capacity budget M ≡ finishes (m .value)
+  Matches (Stepped.stops n) = (r : Reason) × (move (sheetOf sheet) capacity budget M ≡ stops r) × (reasonNumber r ≡ n)
+
+-- the width of the expression at the front of some bytes, in every scope in which there is one
+abbrev pub WidthOf : List ℕ → ℕ → Type 0
+WidthOf l skip = (sc : Scope) (f : Expr) (w : ℕ) → readExpr sc (length l) l ≡ reads f w → skip ≡ w
+
+-- a value in a word
+abbrev pub Packs : Value → ℕ → Type 0
+Packs v p = (valueIn p ≡ v) × (p < 68719476736)

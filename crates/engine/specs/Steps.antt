@@ -1,0 +1,187 @@
+-- One move of the machine on registers and lent memory, as the code makes it. Steps.antt of proofs/ shows that it is a move of Machine.antt.
+use mathlib.Core.Bool.{Bool, true, false, cond}
+use mathlib.Core.Option.{Option, none, some}
+use mathlib.Core.List.{List, [], _∷_, _++_}
+use Prim.Native.Nat.{ℕ, zero, suc, _+_, _*_, _-_, _/_, _%_}
+use lib.Dec.{leb, ltb, eqb}
+use lib.ListN.{length, take, drop, getD, set}
+use Rattle.specs.specs.Values.{Base, unitT, boolT, intT, nodeT, null, functionOf, baseOf, ofBytes, toBytes, ofWord, toWord, truth, nodeOf, apply}
+use Rattle.specs.specs.declared.Value.{Value}
+use Rattle.specs.specs.declared.Value.the-variants.{Unit as unit, Bool as bool, Int as int, Node as node, Function as function}
+use Rattle.specs.specs.Expressions.{Scope, Head, base-literal, function-literal, if-head, application-head, attribute-head, this-head, parameter-head, no-head, headOf, operandWidth, readExpr}
+use Rattle.specs.specs.Sheet.{Sheet, ruleScope}
+use Rattle.pieces.specs.Pieces.{restOf}
+use Rattle.frames.specs.Words.{valueIn}
+use Rattle.sheets.specs.Scan.{figurePlace, rulePlace, figureAt, pieceAt, indexed}
+use Rattle.stores.specs.Keys.{Key, findKey}
+use Rattle.engine.specs.Decode.{sheetOf, formOccurrence}
+use Rattle.engine.specs.declared.Registers.{Registers}
+
+-- The memory that a move may write, besides the store's index.
+pub record Memory : Type 0 where
+  pub store : List ℕ
+  pub words : List ℕ
+  pub forms : List ℕ
+
+-- What a move comes to: registers and memory to go on with; a counted step is due at the limit; the value is the run's; or a stop's number.
+pub data Stepped : Type 0 where
+  goes : Registers → Memory → Stepped
+  waits finishes : Stepped
+  stops : ℕ → Stepped
+
+-- ---- Registers
+
+abbrev pub returned : Registers → ℕ → Value → Registers
+returned m w v =
+    record { returning = true; at = m .at + w; end = m .end; frames = m .frames; forms = m .forms; kept = m .kept; steps = m .steps; value = v }
+
+abbrev pub pushed : Registers → ℕ → Registers
+pushed m w =
+    record { returning = false; at = m .at + w; end = m .end; frames = m .frames + 1; forms = m .forms; kept = m .kept; steps = m .steps; value = m .value }
+
+-- a counted step that pops a frame and has a value
+abbrev pub answered : Registers → ℕ → Value → Registers
+answered m kept v =
+    record { returning = true; at = m .at; end = m .end; frames = m .frames - 1; forms = m .forms; kept = kept; steps = m .steps + 1; value = v }
+
+abbrev pub writeWord : Memory → ℕ → ℕ → Memory
+writeWord mem i w = record { store = mem .store; words = set (mem .words) i w; forms = mem .forms }
+
+-- the value of 0x31 inside the innermost form, and the node of 0x30
+abbrev pub thisNode : List ℕ → Registers → Value
+thisNode forms m = node (getD forms (4 * (m .forms - 1)) 0 / 32)
+
+abbrev pub thisParameter : List ℕ → List ℕ → Registers → Value
+thisParameter sheet forms m = formOccurrence sheet forms (m .forms - 1) .parameter
+
+-- ---- Reading a head
+
+-- `l` are the bytes of the rest after its head. Heads 0x30 and 0x31 stand inside a form.
+unfoldable pub readHead : List ℕ → Memory → Registers → Head → List ℕ → Stepped
+readHead sheet mem m (base-literal t) l = goes (returned m (1 + operandWidth t) (ofWord t (ofBytes (take (operandWidth t) l)))) mem
+readHead sheet mem m function-literal l = goes (returned m 2 (function (functionOf (getD l 0 0)))) mem
+readHead sheet mem m if-head l = goes (pushed m 1) (writeWord mem (m .frames) 0)
+readHead sheet mem m application-head l = goes (pushed m 1) (writeWord mem (m .frames) 1)
+readHead sheet mem m attribute-head l = goes (pushed m 2) (writeWord mem (m .frames) (4 + 8 * getD l 0 0))
+readHead sheet mem m this-head l = goes (returned m 1 (thisNode (mem .forms) m)) mem
+readHead sheet mem m parameter-head l = goes (returned m 1 (thisParameter sheet (mem .forms) m)) mem
+readHead sheet mem m no-head l = waits
+
+-- ---- Giving a value to a frame
+
+-- the registers evaluating on, with the innermost frame made another
+abbrev pub turned : Registers → Registers
+turned m =
+    record { returning = false; at = m .at; end = m .end; frames = m .frames; forms = m .forms; kept = m .kept; steps = m .steps; value = m .value }
+
+-- CacheWrite on bytes: the store and the kept number after it
+unfoldable pub appended : List ℕ → ℕ → Key → ℕ → List ℕ
+appended store kept q value =
+    take (12 * kept) store ++ (toBytes 2 (q .node) ++ q .attribute ∷ 0 ∷ toBytes 4 (q .word) ++ toBytes 4 value) ++ drop (12 * kept + 12) store
+
+unfoldable pub unlessFound : List ℕ → ℕ → Key → ℕ → Option ℕ → List ℕ × ℕ
+unlessFound store kept q value none = (appended store kept q value, kept + 1)
+unlessFound store kept q value (some j) = (store, kept)
+
+unfoldable pub cacheWrite : List ℕ → ℕ → Key → ℕ → List ℕ × ℕ
+cacheWrite store kept q value =
+    cond (leb (length store / 12) kept) (store, kept) (unlessFound store kept q value (findKey store kept q))
+
+unfoldable pub closeForm : Memory → Registers → Stepped
+closeForm mem m =
+    let f = 4 * (m .forms - 1) in
+    let pair = getD (mem .forms) f 0 in
+    let w = cacheWrite (mem .store) (m .kept) record { node = pair / 32; attribute = pair % 32; word = getD (mem .forms) (f + 1) 0 } (toWord (m .value)) in
+    goes record {
+      returning = true;
+      at = getD (mem .forms) (f + 2) 0;
+      end = getD (mem .forms) (f + 3) 0;
+      frames = m .frames - 1;
+      forms = m .forms - 1;
+      kept = w .1;
+      steps = m .steps;
+      value = m .value;
+    } record { store = w .0; words = mem .words; forms = mem .forms }
+
+-- IF, with the rest of the running piece
+unfoldable pub takeIf : ℕ → Memory → Registers → Bool → Stepped
+takeIf skip mem m true =
+    goes record { returning = false; at = m .at; end = m .end; frames = m .frames; forms = m .forms; kept = m .kept; steps = m .steps + 1; value = m .value }
+    (writeWord mem (m .frames - 1) 2)
+takeIf skip mem m false =
+    goes record { returning = false; at = m .at + skip; end = m .end; frames = m .frames - 1; forms = m .forms; kept = m .kept; steps = m .steps + 1; value = m .value } mem
+
+-- the limits of a counted step other than AttrApp
+unfoldable pub within : ℕ → ℕ → Registers → Stepped → Stepped
+within budget limit m next = cond (leb budget (m .steps)) (stops 15) (cond (leb limit (m .steps)) waits next)
+
+module _ (sheet index : List ℕ) (attributes : ℕ) where
+  -- the rule for a node's kind and an attribute: the offset of its command, and one
+  abbrev pub ruleIndex : ℕ → ℕ → ℕ
+  ruleIndex n a = getD index (rulePlace (getD sheet (3 * attributes + 2 * n + 1) 0) a) 0
+
+  -- AttrApp of an occurrence that is not kept: its figure, or its rule inside a form
+  unfoldable pub openRule : Memory → Registers → ℕ → ℕ → ℕ → Stepped
+  openRule mem m n a word =
+      let f = 4 * m .forms in
+      let start = ruleIndex n a + 4 in
+      goes record {
+        returning = false;
+        at = start;
+        end = start + ofBytes (take 2 (drop (ruleIndex n a + 2) sheet));
+        frames = m .frames;
+        forms = m .forms + 1;
+        kept = m .kept;
+        steps = m .steps + 1;
+        value = m .value;
+      } record {
+        store = mem .store;
+        words = set (mem .words) (m .frames - 1) 6;
+        forms = set (set (set (set (mem .forms) f (n * 32 + a)) (f + 1) word) (f + 2) (m .at)) (f + 3) (m .end);
+      }
+
+  unfoldable pub openFigure : Memory → Registers → ℕ → ℕ → ℕ → Option Value → Stepped
+  openFigure mem m n a word none = openRule mem m n a word
+  openFigure mem m n a word (some v) =
+      let w = cacheWrite (mem .store) (m .kept) record { node = n; attribute = a; word = word } (toWord v) in
+      goes (answered m (w .1) v) record { store = w .0; words = mem .words; forms = mem .forms }
+
+  -- AttrApp: a kept value before the definition
+  unfoldable pub takeKept : Memory → Registers → ℕ → ℕ → Option ℕ → Stepped
+  takeKept mem m n a none =
+      openFigure mem m n a (toWord (m .value)) (indexed (getD index (figurePlace n a) 0) (figureAt sheet a))
+  takeKept mem m n a (some j) =
+      goes (answered m (m .kept) (ofWord (baseOf (getD sheet (3 * a + 1) 0)) (ofBytes (take 4 (drop (12 * j + 8) (mem .store)))))) mem
+
+  unfoldable pub attributeDue : ℕ → ℕ → Memory → Registers → ℕ → ℕ → Stepped
+  attributeDue budget limit mem m n a =
+      cond (eqb n null) (stops 14)
+      (cond (leb budget (m .steps)) (stops 15)
+      (cond (leb 64 (m .forms)) (stops 16)
+      (cond (leb limit (m .steps)) waits
+      (takeKept mem m n a (findKey (mem .store) (m .kept) record { node = n; attribute = a; word = toWord (m .value) })))))
+
+  -- The value goes to the innermost frame, whose word is `w`. `skip` is the width of the expression at the front of the rest, and `packed`
+  -- the value in a word.
+  unfoldable pub give : ℕ → ℕ → ℕ → ℕ → Memory → Registers → ℕ → Stepped
+  give budget limit skip packed mem m w =
+      cond (eqb (w % 8) 0) (within budget limit m (takeIf skip mem m (truth (m .value))))
+      (cond (eqb (w % 8) 1) (goes (turned m) (writeWord mem (m .frames - 1) (3 + 8 * packed)))
+      (cond (eqb (w % 8) 2)
+      (goes record { returning = true; at = m .at + skip; end = m .end; frames = m .frames - 1; forms = m .forms; kept = m .kept; steps = m .steps; value = m .value } mem)
+      (cond (eqb (w % 8) 3)
+      (within budget limit m (goes (answered m (m .kept) (apply (valueIn (w / 8 % 68719476736)) (m .value))) mem))
+      (cond (eqb (w % 8) 4) (goes (turned m) (writeWord mem (m .frames - 1) (5 + 8 * (w / 8 % 32 + 32 * packed))))
+      (cond (eqb (w % 8) 6) (closeForm mem m)
+      (attributeDue budget limit mem m (nodeOf (valueIn (w / 256 % 68719476736))) (w / 8 % 32)))))))
+
+  unfoldable pub readNext : Memory → Registers → List ℕ → Stepped
+  readNext mem m [] = waits
+  readNext mem m (c ∷ l) = readHead sheet mem m (headOf c) l
+
+  -- the move; `sc` is any scope in which what follows is expressions
+  unfoldable pub stepOf : List ℕ → ℕ → ℕ → ℕ → ℕ → Memory → Registers → Stepped
+  stepOf question budget limit skip packed mem m =
+      cond (m .returning)
+      (cond (eqb (m .frames) 0) finishes (give budget limit skip packed mem m (getD (mem .words) (m .frames - 1) 0)))
+      (readNext mem m (restOf sheet question (m .forms) (m .at) (m .end)))

@@ -1,0 +1,5 @@
+pub mod Numbers
+pub mod Literals
+pub mod Composites
+pub mod Wholes
+pub mod Questions

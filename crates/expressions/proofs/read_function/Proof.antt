@@ -1,0 +1,24 @@
+-- One byte is the operand, and it is a code if it is below 6.
+use borrow.Author.Needs.{needs}
+use Rattle.expressions.proofs.Literals.{function-short, function-reads, function-refused}
+use Rattle.expressions.proofs.read_function.Statement.{statement}
+use Rattle.expressions.proofs.read_function.Tie as tie
+
+returns : tie.Need-returns
+returns c = λ s sig p k. function-short s sig p k _ (c .if1 .taken)
+
+shared-slice-read-f : tie.Need-shared-slice-read-f
+shared-slice-read-f c = search needs
+
+function-number-requires : tie.Need-function-number-requires
+function-number-requires c κs = search needs
+
+returns-2 : tie.Need-returns-2
+returns-2 c = λ s sig p k. rw (c .function-number .ensures) (function-reads s sig p k _ (c .before .before .before .if1 .left) (c .before .if2 .taken))
+
+returns-3 : tie.Need-returns-3
+returns-3 c = λ s sig p k. function-refused s sig p k _ (c .before .before .if1 .left) (c .if2 .left)
+
+pub read-function-spec : {M : Type 1} → statement M
+read-function-spec =
+    tie.close (tie.spec returns shared-slice-read-f function-number-requires returns-2 returns-3)

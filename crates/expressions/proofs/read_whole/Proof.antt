@@ -1,0 +1,30 @@
+-- The laws of Wholes.antt, at what `read` ensures.
+use borrow.Author.Needs.{needs}
+use Rattle.expressions.proofs.Wholes.{whole-long, whole-malformed, whole-reads, whole-left-over}
+use Rattle.expressions.proofs.read_whole.Statement.{statement}
+use Rattle.expressions.proofs.read_whole.Tie as tie
+
+returns : tie.Need-returns
+returns c = whole-long _ _ _ _ (c .if1 .taken)
+
+read-requires : tie.Need-read-requires
+read-requires c κs = search needs
+
+enum-known-w : tie.Need-enum-known-w
+enum-known-w c = search needs
+
+enum-told : tie.Need-enum-told
+enum-told c = search needs
+
+returns-2 : tie.Need-returns-2
+returns-2 c = whole-malformed _ _ _ _ (c .before .before .before .if1 .left) (c .before .before .read .ensures) (c .enum-told .given .1)
+
+returns-3 : tie.Need-returns-3
+returns-3 c = whole-reads _ _ _ _ (c .before .before .before .before .before .if1 .left) (c .before .before .before .before .read .ensures) (c .before .before .w .given .1) (c .if2 .taken)
+
+returns-4 : tie.Need-returns-4
+returns-4 c = whole-left-over _ _ _ _ (c .before .before .before .before .before .if1 .left) (c .before .before .before .before .read .ensures) (c .before .before .w .given .1) (c .if2 .left)
+
+pub read-whole-spec : {M : Type 1} → statement M
+read-whole-spec =
+    tie.close (tie.spec returns read-requires enum-known-w enum-told returns-2 returns-3 returns-4)

@@ -1,0 +1,203 @@
+-- What an indexed sheet's bytes and index say at a place, and how a store into the index changes that.
+use mathlib.Core.Bool.{Bool, true, false, cond, _&&_}
+use mathlib.Core.Option.{Option, some}
+use mathlib.Core.List.{List, [], _∷_, _++_}
+use mathlib.Core.Logic.{_⊎_, inl, inr}
+use mathlib.Core.Path.{_≡_, refl, sym, ap, _∙_}
+use Prim.Native.Nat.{ℕ, zero, suc, _+_, _*_, _≤_, _<_}
+use native.Mathlib.Nat.{eq-or-lt-of-le}
+use native.Mathlib.Omega.{arith}
+use native.Mathlib.Numerals.{add-one}
+use lib.Dec.{eqb}
+use lib.ListN.{length, drop, getD, set, length-set}
+use lib.Seq.{getD-drop, getD-set-same, getD-set-other}
+use borrow.Author.Tests.{eqb-true, eqb-false, eq-eqb, ne-eqb}
+use Rattle.specs.specs.Values.{baseOf}
+use Rattle.specs.specs.Types.{Attribute, attributeAt}
+use Rattle.specs.specs.Sheet.{Sheet, nodeCount, attributeCount, figureFor, ruleFor, ruled, figured, definition}
+use Rattle.sheets.specs.Scan.{figurePlace, rulePlace, figureAt, pieceAt, indexed, clearRow, FigureFits, RuleFits, Indexed}
+use Rattle.specs.specs.Layout.{attributesIn, kindsIn}
+
+-- ---- Attributes and kinds
+
+abbrev pub attributeIn : List ℕ → ℕ → Attribute
+attributeIn l a = record { result = baseOf (getD l (3 * a + 1) 0); parameter-type = baseOf (getD l (3 * a + 2) 0) }
+
+-- an operand past the first command
+module _ (w i : ℕ) (n : ℕ) (l : List ℕ) where
+  past : getD (drop w l) (w * n + i) 0 ≡ getD l (w * suc n + i) 0
+  past = getD-drop w l (w * n + i) 0 ∙ ap (λ k. getD l k 0) (omega arith)
+
+pub attributes-snoc : (l : List ℕ) (n : ℕ) → attributesIn l (suc n) ≡ attributesIn l n ++ attributeIn l n ∷ []
+unfolding attributesIn
+attributes-snoc l zero = refl
+attributes-snoc l (suc n) = ap (λ r. attributeIn l 0 ∷ r) (attributes-snoc (drop 3 l) n ∙ simp past)
+
+pub attribute-at : (l : List ℕ) (n a : ℕ) → a < n → attributeAt (attributesIn l n) a ≡ attributeIn l a
+unfolding attributesIn
+attribute-at l zero a h = absurd (omega arith)
+attribute-at l (suc n) zero h = refl
+attribute-at l (suc n) (suc a) h = attribute-at (drop 3 l) n a (omega arith) ∙ simp past
+
+pub kinds-snoc : (l : List ℕ) (n : ℕ) → kindsIn l (suc n) ≡ kindsIn l n ++ getD l (2 * n + 1) 0 ∷ []
+unfolding kindsIn
+kinds-snoc l zero = refl
+kinds-snoc l (suc n) = ap (λ r. getD l 1 0 ∷ r) (kinds-snoc (drop 2 l) n ∙ simp past)
+
+pub kind-at : (l : List ℕ) (n i : ℕ) → i < n → getD (kindsIn l n) i 0 ≡ getD l (2 * i + 1) 0
+unfolding kindsIn
+kind-at l zero i h = absurd (omega arith)
+kind-at l (suc n) zero h = refl
+kind-at l (suc n) (suc i) h = kind-at (drop 2 l) n i (omega arith) ∙ simp past
+
+-- ---- The index
+
+pub clear-length : (k i : ℕ) (index : List ℕ) → length (clearRow k i index) ≡ length index
+unfolding clearRow
+clear-length zero i index = refl
+clear-length (suc k) i index = clear-length k (suc i) (set index i 0) ∙ length-set index i 0
+
+pub clear-other : (k i j : ℕ) (index : List ℕ) → (i ≤ j → j < i + k → ⊥) → getD (clearRow k i index) j 0 ≡ getD index j 0
+unfolding clearRow
+clear-other zero i j index h = refl
+clear-other (suc k) i j index h =
+    clear-other k (suc i) j (set index i 0) (λ p q. h (omega arith) (omega arith)) ∙ getD-set-other index i j 0 0 λ e. h (omega arith) (omega arith)
+
+pub clear-same : (k i j : ℕ) (index : List ℕ) → i ≤ j → j < i + k → j < length index → getD (clearRow k i index) j 0 ≡ 0
+unfolding clearRow
+clear-same zero i j index p q r = absurd (omega arith)
+clear-same (suc k) i j index p q r = go (clear-same k (suc i) j (set index i 0)) (eq-or-lt-of-le p)
+  where
+    go : (i < j → j < suc i + k → j < length (set index i 0) → getD (clearRow k (suc i) (set index i 0)) j 0 ≡ 0)
+        → (i ≡ j) ⊎ (i < j) → getD (clearRow k (suc i) (set index i 0)) j 0 ≡ 0
+    go later (inl e) = clear-other k (suc i) j (set index i 0) (λ a b. omega arith) ∙ rw (← e) (getD-set-same index i 0 0 (omega arith))
+    go later (inr h) = later h (omega arith) (rw length-set r)
+
+-- A pair's place among rows of 32 settles the pair.
+module _ (c m n b a i j : ℕ) (p : b < 32) (q : a < 32) (at-i : i ≡ c + m * 32 + b) (at-j : j ≡ c + n * 32 + a) where
+  same-pair : i ≡ j → (m ≡ n) × (b ≡ a)
+  same-pair e = omega arith
+
+  same-place : (eqb m n && eqb b a) ≡ eqb i j
+  same-place = go (eqb m n) refl (eqb b a) refl
+    where
+      go : (t : Bool) → eqb m n ≡ t → (u : Bool) → eqb b a ≡ u → (t && u) ≡ eqb i j
+      go true e true f = sym (eq-eqb i j (omega (arith, eqb-true)))
+      go true e false f = sym (ne-eqb i j λ same. eqb-false b a f (same-pair same .1))
+      go false e true f = sym (ne-eqb i j λ same. eqb-false m n e (same-pair same .0))
+      go false e false f = sym (ne-eqb i j λ same. eqb-false m n e (same-pair same .0))
+
+-- What is looked up after a store of the offset `at` at the place `i`: there the command at this offset, elsewhere what was there.
+module _ (index : List ℕ) (i j at : ℕ) (fits : i < length index) where
+  stored : {A : Type 0} (x : A) (o : Option A) (f : ℕ → A) → (i ≡ j → x ≡ f at) → o ≡ indexed (getD index j 0) f
+      → cond (eqb i j) (some x) o ≡ indexed (getD (set index i (at + 1)) j 0) f
+  unfolding indexed
+  stored x o f same other = go (eqb i j) refl
+    where
+      go : (t : Bool) → eqb i j ≡ t → cond t (some x) o ≡ indexed (getD (set index i (at + 1)) j 0) f
+      go true e = let q = eqb-true i j e in rw (← q, getD-set-same index i (at + 1) 0 fits, add-one at) (ap some (same q))
+      go false e = rw (getD-set-other index i j (at + 1) 0 (λ q. eqb-false i j e (sym q))) other
+
+  stored-fits : (P : ℕ → Type 0) (b : ℕ) → (i ≡ j → P at) → (getD index j 0 ≡ suc b → P b) → getD (set index i (at + 1)) j 0 ≡ suc b → P b
+  stored-fits P b same other = go (eqb i j) refl
+    where
+      go : (t : Bool) → eqb i j ≡ t → getD (set index i (at + 1)) j 0 ≡ suc b → P b
+      go true e g =
+          let q = eqb-true i j e in
+          let here : at ≡ b = omega (arith, getD-set-same index i (at + 1) 0 fits, rw (← q) at g) in
+          rw here at (same q)
+      go false e g = other (rw (getD-set-other index i j (at + 1) 0 (λ q. eqb-false i j e (sym q))) at g)
+
+-- ---- Look-ups
+
+module _ (bytes : List ℕ) (s : Sheet) (index : List ℕ) (h : Indexed bytes s index) where
+  pub attribute-by-index : (a : ℕ) → a < attributeCount s → attributeAt (s .attributes) a ≡ attributeIn bytes a
+  attribute-by-index a q = rw (h .attributes-are) (attribute-at bytes (attributeCount s) a q)
+
+  pub kind-by-index : (n : ℕ) → n < nodeCount s → getD (s .kinds) n 0 ≡ getD bytes (3 * attributeCount s + 2 * n + 1) 0
+  kind-by-index n p =
+      rw (h .kinds-are) (kind-at _ (nodeCount s) n p ∙ getD-drop (3 * attributeCount s) bytes (2 * n + 1) 0 ∙ ap (λ i. getD bytes i 0) (omega arith))
+
+  pub definition-by-index : (n a : ℕ) → n < nodeCount s → a < attributeCount s → definition s n a
+      ≡ figured (indexed (getD index (figurePlace n a) 0) (figureAt bytes a))
+      (ruled (indexed (getD index (rulePlace (getD bytes (3 * attributeCount s + 2 * n + 1) 0) a) 0) (pieceAt bytes)))
+  unfolding definition
+  definition-by-index n a p q =
+      rw (h .figures n a p q, h .rules _ a (h .kinds-bound n p) q, kind-by-index n p)
+
+-- ---- One more figure, one more rule
+
+module _ (bytes : List ℕ) (s : Sheet) (index : List ℕ) (h : Indexed bytes s index) (a at : ℕ) (q : a < attributeCount s) where
+  pub figure-indexed : (n : ℕ) → n < nodeCount s → FigureFits bytes (nodeCount s) a at
+      → Indexed bytes
+      record {
+        attributes = s .attributes;
+        kinds = s .kinds;
+        figures = record { node = n; attribute = a; value = figureAt bytes a at } ∷ s .figures;
+        rules = s .rules;
+      }
+      (set index (figurePlace n a) (at + 1))
+  unfolding figureFor
+  figure-indexed n p fits = record {
+    size = length-set index (figurePlace n a) (at + 1) ∙ h .size;
+    short = h .short;
+    attributes-are = h .attributes-are;
+    kinds-are = h .kinds-are;
+    room = h .room;
+    attributes-bound = h .attributes-bound;
+    nodes-bound = h .nodes-bound;
+    types-bound = h .types-bound;
+    kinds-bound = h .kinds-bound;
+    figures = λ m b p′ q′. rw (test m b q′) (stored index (figurePlace n a) (figurePlace m b) at inside _ _ (figureAt bytes b) (λ e. rw (same m b q′ e)) (h .figures m b p′ q′));
+    figure-fits = λ m b c p′ q′. stored-fits index (figurePlace n a) (figurePlace m b) at inside (FigureFits bytes (nodeCount s) b) c (λ e. rw (same m b q′ e) at fits)
+        (h .figure-fits m b c p′ q′);
+    rules = λ k b p′ q′. rw (other k b) (h .rules k b p′ q′);
+    rule-fits = λ k b c p′ q′. rw (other k b) (h .rule-fits k b c p′ q′);
+  }
+    where
+      inside : figurePlace n a < length index
+      inside = omega arith
+
+      same : (m b : ℕ) → b < attributeCount s → figurePlace n a ≡ figurePlace m b → a ≡ b
+      same m b q′ e = omega arith
+
+      test : (m b : ℕ) → b < attributeCount s → (eqb n m && eqb a b) ≡ eqb (figurePlace n a) (figurePlace m b)
+      test m b q′ = same-place 0 n m a b (figurePlace n a) (figurePlace m b) (omega arith) (omega arith) (omega arith) (omega arith)
+
+      other : (k b : ℕ) → getD (set index (figurePlace n a) (at + 1)) (rulePlace k b) 0 ≡ getD index (rulePlace k b) 0
+      other k b = getD-set-other index (figurePlace n a) (rulePlace k b) (at + 1) 0 (omega arith)
+
+  pub rule-indexed : (k : ℕ) → k ≤ 15 → RuleFits bytes at
+      → Indexed bytes
+      record {
+        attributes = s .attributes;
+        kinds = s .kinds;
+        figures = s .figures;
+        rules = record { kind = k; attribute = a; piece = pieceAt bytes at } ∷ s .rules;
+      }
+      (set index (rulePlace k a) (at + 1))
+  unfolding ruleFor
+  rule-indexed k p fits = record {
+    size = length-set index (rulePlace k a) (at + 1) ∙ h .size;
+    short = h .short;
+    attributes-are = h .attributes-are;
+    kinds-are = h .kinds-are;
+    room = h .room;
+    attributes-bound = h .attributes-bound;
+    nodes-bound = h .nodes-bound;
+    types-bound = h .types-bound;
+    kinds-bound = h .kinds-bound;
+    figures = λ n b p′ q′. rw (other n b p′ q′) (h .figures n b p′ q′);
+    figure-fits = λ n b c p′ q′. rw (other n b p′ q′) (h .figure-fits n b c p′ q′);
+    rules = λ m b p′ q′. rw (test m b q′) (stored index (rulePlace k a) (rulePlace m b) at inside _ _ (pieceAt bytes) (λ e. refl) (h .rules m b p′ q′));
+    rule-fits = λ m b c p′ q′. stored-fits index (rulePlace k a) (rulePlace m b) at inside (RuleFits bytes) c (λ e. fits) (h .rule-fits m b c p′ q′);
+  }
+    where
+      inside : rulePlace k a < length index
+      inside = omega arith
+
+      test : (m b : ℕ) → b < attributeCount s → (eqb k m && eqb a b) ≡ eqb (rulePlace k a) (rulePlace m b)
+      test m b q′ = same-place 32768 k m a b (rulePlace k a) (rulePlace m b) (omega arith) (omega arith) (omega arith) (omega arith)
+
+      other : (n b : ℕ) → n < nodeCount s → b < attributeCount s → getD (set index (rulePlace k a) (at + 1)) (figurePlace n b) 0 ≡ getD index (figurePlace n b) 0
+      other n b p′ q′ = getD-set-other index (rulePlace k a) (figurePlace n b) (at + 1) 0 (omega arith)

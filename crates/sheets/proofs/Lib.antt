@@ -1,0 +1,7 @@
+pub mod Clearing
+pub mod Commands
+pub mod Gaps
+pub mod Indexed
+pub mod Lookups
+pub mod Pass
+pub mod Scan

@@ -1,0 +1,475 @@
+-- The pass over a sheet is the check of the sheet, stop for stop and place for place, and the index that it leaves is the accepted
+-- sheet's. Between two commands the pass and the check stand at one offset and one part, and the index describes the sheet so far.
+use mathlib.Core.Bool.{Bool, true, false, not, cond, _&&_, _||_, and-comm, and-eq-true-iff}
+use mathlib.Core.Option.{Option, none, some}
+use mathlib.Core.List.{List, [], _∷_, _++_}
+use mathlib.Core.Logic.{_⊎_, inl, inr}
+use mathlib.Core.Path.{_≡_, refl, sym, ap, _∙_, subst}
+use Prim.Native.Nat.{ℕ, zero, suc, _+_, _*_, _≤_, _<_}
+use native.Mathlib.Nat.{eq-or-lt-of-le, add-assoc}
+use native.Mathlib.Omega.{arith}
+use native.Mathlib.Numerals.{add-one}
+use lib.Dec.{leb, ltb, eqb, eqb·suc-zero}
+use lib.ListN.{length, take, drop, getD, length-append, length-drop, length-set, drop-of-length-le, List·getD-append}
+use lib.Seq.{drop-cons, drop-drop, getD-drop, getD-append-seam, length-take-le}
+use borrow.Author.Tests.{leb-true, leb-false, ltb-true, ltb-false, eqb-true, eqb-false, le-leb, lt-leb}
+use Rattle.specs.specs.Values.{ofBytes, isWord}
+use Rattle.specs.specs.Expressions.{Expr, Scope, Whole, no-expression, expression, readWhole}
+use Rattle.specs.specs.Types.{attributeAt}
+use Rattle.specs.specs.Sheet.{Sheet, emptySheet, nodeCount, attributeCount, figureFor, ruleFor, ruleScope, ruled, figured, definition, isDefined, gapAt, gapFrom, Command, attribute-command, node-command, figure-command, rule-command, end-command, no-command, commandOf, Read, stops as read-stops, ends as read-ends, goes-on as read-on, require, isNone, readAttribute, readNode, readFigure, requireRule, readRule, readEnd, readCommand, readNext, Checked, refused, accepted, complete, readCommands, checkSheet}
+use Rattle.specs.proofs.Inference.{cond-passes}
+use Rattle.sheets.specs.declared.Progress.{Progress}
+use Rattle.sheets.specs.declared.SheetCheck.{SheetCheck}
+use Rattle.sheets.specs.declared.SheetCheck.the-variants.{Refused, Accepted}
+use Rattle.sheets.specs.Scan.{figurePlace, rulePlace, indexSize, figureAt, pieceAt, indexed, Scanned, stops, ends, goes-on, demand, scanAttribute, clearRow, scanNode, scanFigure, demandRule, scanRule, scanEnd, scanAt, scanCommand, isIndexed, missingAt, missingFrom, Scan, scanned, scanFrom, start, scanSheet, checkOf, Indexed, scanOf, Checks}
+use Rattle.specs.specs.Layout.{attributesIn, kindsIn}
+use Rattle.sheets.proofs.Indexed.{attributes-snoc, kinds-snoc, clear-length, clear-other, clear-same, attribute-by-index, definition-by-index, figure-indexed, rule-indexed}
+
+-- ---- The pass for missing pairs
+
+is-indexed : {A : Type 0} (x : ℕ) (f : ℕ → A) → isNone (indexed x f) ≡ eqb x 0
+unfolding indexed
+is-indexed zero f = refl
+is-indexed (suc at) f = sym (eqb·suc-zero at)
+
+module _ (bytes : List ℕ) (s : Sheet) (index : List ℕ) (h : Indexed bytes s index) where
+  defined-is : (n a : ℕ) → n < nodeCount s → a < attributeCount s → isDefined (definition s n a) ≡ isIndexed bytes index (attributeCount s) n a
+  unfolding isIndexed isDefined figured ruled indexed
+  defined-is n a p q =
+      rw (definition-by-index bytes s index h n a p q)
+      (go (getD index (figurePlace n a) 0) (getD index (rulePlace (getD bytes (3 * attributeCount s + 2 * n + 1) 0) a) 0))
+    where
+      go : (x y : ℕ) → isDefined (figured (indexed x (figureAt bytes a)) (ruled (indexed y (pieceAt bytes)))) ≡ (not (eqb x 0) || not (eqb y 0))
+      go zero zero = refl
+      go zero (suc y) = rw eqb·suc-zero
+      go (suc x) zero = rw eqb·suc-zero
+      go (suc x) (suc y) = simp eqb·suc-zero
+
+  gap-at : (k n a : ℕ) → n < nodeCount s → a + k ≤ attributeCount s → gapAt s k n a ≡ missingAt bytes index (attributeCount s) k n a
+  unfolding gapAt missingAt
+  gap-at zero n a p q = refl
+  gap-at (suc k) n a p q =
+      rw (defined-is n a p (omega arith), gapAt)
+      (ap {B = Option ℕ} (λ o. elim (isIndexed bytes index (attributeCount s) n a) [ true ↦ o | false ↦ some (n * 32 + a) ]) (gap-at k n (suc a) p (omega arith)))
+
+  gap-from : (k n : ℕ) → n + k ≤ nodeCount s → gapFrom s k n ≡ missingFrom bytes index (attributeCount s) k n
+  unfolding gapFrom missingFrom
+  gap-from zero n p = refl
+  gap-from (suc k) n p =
+      rw (gap-at (attributeCount s) n 0 (omega arith) (omega arith), gapFrom)
+      (ap {B = Option ℕ} (λ o. elim (missingAt bytes index (attributeCount s) (attributeCount s) n 0) [ none ↦ o | some place ↦ some place ]) (gap-from k (suc n) (omega arith)))
+
+-- ---- Between two commands
+
+abbrev pub progress : Sheet → ℕ → ℕ → Progress
+progress s at part = record { at = at; part = part; attributes = attributeCount s; nodes = nodeCount s }
+
+-- Attributes and nodes are declared where there is no figure and no rule yet, so each of those is checked on all that is declared.
+record Declaring (bytes : List ℕ) (s : Sheet) (at part : ℕ) (index : List ℕ) : Type 0 where
+  size : length index ≡ indexSize
+  short : length bytes ≤ 65536
+  attributes-are : s .attributes ≡ attributesIn bytes (attributeCount s)
+  kinds-are : s .kinds ≡ kindsIn (drop (3 * attributeCount s) bytes) (nodeCount s)
+  reached : at ≡ 3 * attributeCount s + 2 * nodeCount s
+  within : at ≤ length bytes
+  attributes-bound : attributeCount s ≤ 32
+  nodes-bound : nodeCount s ≤ 1024
+  types-bound : (a : ℕ) → a < attributeCount s → (getD bytes (3 * a + 1) 0 < 4) × (getD bytes (3 * a + 2) 0 < 4)
+  kinds-bound : (n : ℕ) → n < nodeCount s → getD (s .kinds) n 0 ≤ 15
+  no-nodes : part ≤ 0 → s .kinds ≡ []
+  no-figures : s .figures ≡ []
+  no-rules : s .rules ≡ []
+  clear-rows : (n : ℕ) → n < nodeCount s → (a : ℕ) → a < 32 → getD index (figurePlace n a) 0 ≡ 0
+  clear-rules : (k a : ℕ) → k ≤ 15 → a < 32 → getD index (rulePlace k a) 0 ≡ 0
+
+pub record SoFar (bytes : List ℕ) (s : Sheet) (at part : ℕ) (index : List ℕ) : Type 0 where
+  pub known : Indexed bytes s index
+  declaring : part ≤ 1 → Declaring bytes s at part index
+
+declared : {bytes : List ℕ} {s : Sheet} {at part : ℕ} {index : List ℕ} → Declaring bytes s at part index → SoFar bytes s at part index
+unfolding figureFor ruleFor indexed
+declared d = record {
+  known = record {
+    size = d .size;
+    short = d .short;
+    attributes-are = d .attributes-are;
+    kinds-are = d .kinds-are;
+    room = omega arith;
+    attributes-bound = d .attributes-bound;
+    nodes-bound = d .nodes-bound;
+    types-bound = d .types-bound;
+    kinds-bound = d .kinds-bound;
+    figures = λ n a p q. rw (d .no-figures, d .clear-rows n p a (omega arith));
+    figure-fits = λ n a b p q e. absurd (omega (arith, d .clear-rows n p a (omega arith)));
+    rules = λ k a p q. rw (d .no-rules, d .clear-rules k a p (omega arith));
+    rule-fits = λ k a b p q e. absurd (omega (arith, d .clear-rules k a p (omega arith)));
+  };
+  declaring = λ p. d;
+}
+
+-- What reading the command at `at` comes to, by the check and by the pass.
+pub data Agrees (bytes : List ℕ) (at : ℕ) : Read → Scanned → Type 0 where
+  stop : {number offset : ℕ} → Agrees bytes at (read-stops number offset) (stops number offset)
+  end : Agrees bytes at read-ends ends
+  next : {width part : ℕ} {s : Sheet} {p : Progress} {index : List ℕ} → p ≡ progress s (at + width) part → SoFar bytes s (at + width) part index
+      → Agrees bytes at (read-on width part s) (goes-on p index)
+
+-- What follows a test may rest on it.
+module _ (bytes : List ℕ) (at : ℕ) where
+  require-agrees : (b c : Bool) → b ≡ c → (number : ℕ) (r : Read) (t : Scanned) → (b ≡ true → Agrees bytes at r t)
+      → Agrees bytes at (require b number r) (demand c number t)
+  unfolding require demand
+  require-agrees true c e number r t f = rw (← e) (f refl)
+  require-agrees false c e number r t f = rw (← e) stop
+
+  require-both-agrees : (a b c d : Bool) → a ≡ c → (a ≡ true → b ≡ d) → (number : ℕ) (r : Read) (t : Scanned)
+      → (a ≡ true → b ≡ true → Agrees bytes at r t) → Agrees bytes at (require (a && b) number r) (demand (c && d) number t)
+  unfolding require demand
+  require-both-agrees true b c d e f number r t g = rw (← e) (require-agrees b d (f refl) number r t (g refl))
+  require-both-agrees false b c d e f number r t g = rw (← e) stop
+
+-- ---- Operands
+
+module _ (bytes : List ℕ) (at : ℕ) where
+  operand : (i : ℕ) → getD (drop (at + 1) bytes) i 0 ≡ getD bytes (at + suc i) 0
+  operand i = getD-drop (at + 1) bytes i 0 ∙ ap (λ k. getD bytes k 0) (omega arith)
+
+  operands : (i : ℕ) → drop i (drop (at + 1) bytes) ≡ drop (at + suc i) bytes
+  operands i = let e : at + 1 + i ≡ at + suc i = omega arith in drop-drop i (at + 1) bytes ∙ rw e
+
+  long : at < length bytes → (n : ℕ) → leb n (length (drop (at + 1) bytes)) ≡ leb (at + suc n) (length bytes)
+  long inside n = go (leb n (length (drop (at + 1) bytes))) refl
+    where
+      go : (b : Bool) → leb n (length (drop (at + 1) bytes)) ≡ b → b ≡ leb (at + suc n) (length bytes)
+      go true e = sym (le-leb (at + suc n) (length bytes) (omega (arith, leb-true, length-drop (at + 1) bytes)))
+      go false e = sym (lt-leb (at + suc n) (length bytes) (omega (arith, leb-false, length-drop (at + 1) bytes)))
+
+  -- the test on the room that a rule takes: the check reads the piece's length before it knows that this is there
+  rule-long : at < length bytes → (b : Bool) (n : ℕ) → (b && leb (4 + n) (length (drop (at + 1) bytes)) && leb 4 (length (drop (at + 1) bytes)))
+      ≡ (b && leb (at + 5) (length bytes) && leb (at + 5 + n) (length bytes))
+  rule-long inside false n = refl
+  rule-long inside true n =
+      let e : at + suc (4 + n) ≡ at + 5 + n = omega arith in
+      rw (long inside 4, long inside (4 + n), e) (and-comm (leb (at + 5 + n) (length bytes)) (leb (at + 5) (length bytes)))
+
+  rule-fits : at < length bytes → (b : Bool) (n : ℕ)
+      → (b && leb (4 + n) (length (drop (at + 1) bytes)) && leb 4 (length (drop (at + 1) bytes))) ≡ true → at + 5 + n ≤ length bytes
+  rule-fits inside b n e =
+      leb-true (at + 5 + n) (length bytes) (and-eq-true-iff (b && leb (at + 5) (length bytes)) _ .0 (sym (rule-long inside b n) ∙ e) .1)
+
+-- ---- Each command
+
+ruleset tests = (leb-true, ltb-true)
+
+length-snoc : {A : Type 0} (l : List A) (x : A) → length (l ++ x ∷ []) ≡ suc (length l)
+length-snoc l x = length-append l (x ∷ []) ∙ add-one (length l)
+
+-- a fact of all numbers below `suc n`, from one of those below `n` and of `n`
+one-more : (P : ℕ → Type 0) (n : ℕ) → ((i : ℕ) → i < n → P i) → P n → (i : ℕ) → i < suc n → P i
+one-more P n before here i h = go (eq-or-lt-of-le h)
+  where
+    go : (suc i ≡ suc n) ⊎ (suc i < suc n) → P i
+    go (inl e) = let same : n ≡ i = omega arith in rw same at here
+    go (inr l) = before i (omega arith)
+
+read-short : (c : Scope) (l : List ℕ) (e : Expr) → readWhole c l ≡ expression e → length l ≤ 256
+unfolding readWhole
+read-short c l e r =
+    leb-true (length l) 256 (cond-passes (leb (length l) 256) r (λ x. let z : _≡_ {A = ℕ} 0 1 = cc in omega arith) .0)
+
+module _ (bytes : List ℕ) (s : Sheet) (at part : ℕ) (index : List ℕ) (h : SoFar bytes s at part index) (inside : at < length bytes) where
+  attribute-agrees : Agrees bytes at (readAttribute s part (drop (at + 1) bytes)) (scanAttribute bytes (progress s at part) index)
+  unfolding readAttribute scanAttribute kindsIn
+  attribute-agrees =
+      require-both-agrees bytes at (leb part 0) _ _ _ refl (λ first. long bytes at inside 2) 2 _ _ λ first fits.
+      require-agrees bytes at (ltb (attributeCount s) 32) _ refl 3 _ _ λ room.
+      rw (operand bytes at 0, operand bytes at 1)
+      (require-both-agrees bytes at (ltb (getD bytes (at + 1) 0) 4) (ltb (getD bytes (at + 2) 0) 4) _ _ refl (λ result. refl) 4 _ _ λ result parameter.
+      let d = h .declaring (omega (arith, tests)) in
+      let no-kinds = d .no-nodes (omega (arith, tests)) in
+      let here : at ≡ 3 * attributeCount s = d .reached ∙ rw no-kinds (omega arith) in
+      next (rw length-append) (declared record {
+        size = d .size;
+        short = d .short;
+        attributes-are = rw (length-snoc, attributes-snoc, ← here, ← (d .attributes-are));
+        kinds-are = rw no-kinds;
+        reached = rw (no-kinds, length-snoc) (omega arith);
+        within = omega (arith, tests, length-drop (at + 1) bytes);
+        attributes-bound = rw length-snoc (omega (arith, tests));
+        nodes-bound = d .nodes-bound;
+        types-bound = rw length-snoc (one-more _ (attributeCount s) (d .types-bound) (rw (← here) (omega (arith, tests))));
+        kinds-bound = d .kinds-bound;
+        no-nodes = λ p. no-kinds;
+        no-figures = d .no-figures;
+        no-rules = d .no-rules;
+        clear-rows = d .clear-rows;
+        clear-rules = d .clear-rules;
+      }))
+
+  node-agrees : Agrees bytes at (readNode s part (drop (at + 1) bytes)) (scanNode bytes (progress s at part) index)
+  unfolding readNode scanNode
+  node-agrees =
+      require-both-agrees bytes at (leb part 1) _ _ _ refl (λ early. long bytes at inside 1) 2 _ _ λ early fits.
+      require-agrees bytes at (ltb (nodeCount s) 1024) _ refl 3 _ _ λ room.
+      rw (operand bytes at 0)
+      (require-agrees bytes at (leb (getD bytes (at + 1) 0) 15) _ refl 4 _ _ λ kind.
+      let d = h .declaring (omega (arith, tests)) in
+      let here : 3 * attributeCount s + (2 * nodeCount s + 1) ≡ at + 1 = omega arith in
+      next (rw length-append) (declared record {
+        size = clear-length 32 (figurePlace (nodeCount s) 0) index ∙ d .size;
+        short = d .short;
+        attributes-are = d .attributes-are;
+        kinds-are = rw (length-snoc, kinds-snoc, getD-drop, here, ← (d .kinds-are));
+        reached = rw length-snoc (omega arith);
+        within = omega (arith, tests, length-drop (at + 1) bytes);
+        attributes-bound = d .attributes-bound;
+        nodes-bound = rw length-snoc (omega (arith, tests));
+        types-bound = d .types-bound;
+        kinds-bound = rw length-snoc (one-more _ (nodeCount s) (λ n p. rw (List·getD-append (s .kinds) _ 0 n p) (d .kinds-bound n p)) (rw getD-append-seam (omega (arith, tests))));
+        no-nodes = λ p. absurd (omega arith);
+        no-figures = d .no-figures;
+        no-rules = d .no-rules;
+        clear-rows = rw length-snoc (one-more _ (nodeCount s) (λ n p a q. clear-other 32 (figurePlace (nodeCount s) 0) (figurePlace n a) index (omega arith) ∙ d .clear-rows n p a q)
+            (λ a q. clear-same 32 (figurePlace (nodeCount s) 0) (figurePlace (nodeCount s) a) index (omega arith) (omega arith) (omega (arith, tests))));
+        clear-rules = λ k a p q. clear-other 32 (figurePlace (nodeCount s) 0) (rulePlace k a) index (omega (arith, tests)) ∙ d .clear-rules k a p q;
+      }))
+
+  figure-agrees : Agrees bytes at (readFigure s part (drop (at + 1) bytes)) (scanFigure bytes (progress s at part) index)
+  unfolding readFigure scanFigure figureAt
+  figure-agrees =
+      let n = ofBytes (take 2 (drop (at + 1) bytes)) in
+      let a = getD bytes (at + 3) 0 in
+      let w = ofBytes (take 4 (drop (at + 4) bytes)) in
+      let t = attributeAt (s .attributes) a .result in
+      rw (operand bytes at 2, operands bytes at 3)
+      (require-both-agrees bytes at (leb part 2) _ _ _ refl (λ early. long bytes at inside 7) 2 _ _ λ early fits.
+      require-both-agrees bytes at (ltb n (nodeCount s) && ltb a (attributeCount s)) (isWord (nodeCount s) t w) _ _ refl
+      (λ declared. rw (attribute-by-index bytes s index (h .known) a (is-declared n a declared .1))) 4 _ _ λ declared word.
+      let p = is-declared n a declared .0 in
+      let q = is-declared n a declared .1 in
+      let here = attribute-by-index bytes s index (h .known) a q in
+      require-agrees bytes at (isNone (figureFor (s .figures) n a)) _ (rw (h .known .figures n a p q) (is-indexed _ _)) 5 _ _ λ new.
+      next refl record {
+        known = rw here (figure-indexed bytes s index (h .known) a at q n p (omega (arith, tests, length-drop (at + 1) bytes), rw here at word));
+        declaring = λ p. absurd (omega arith);
+      })
+    where
+      is-declared : (n a : ℕ) → (ltb n (nodeCount s) && ltb a (attributeCount s)) ≡ true → (n < nodeCount s) × (a < attributeCount s)
+      is-declared n a e =
+          let t = and-eq-true-iff (ltb n (nodeCount s)) (ltb a (attributeCount s)) .0 e in
+          (ltb-true n (nodeCount s) (t .0), ltb-true a (attributeCount s) (t .1))
+
+  require-rule-agrees : (a : ℕ) → a < attributeCount s → (w : Whole) (r : Read) (t : Scanned) → ((e : Expr) → w ≡ expression e → Agrees bytes at r t)
+      → Agrees bytes at (requireRule s a w r) (demandRule bytes (progress s at part) a w t)
+  unfolding requireRule demandRule
+  require-rule-agrees a q no-expression r t f = stop
+  require-rule-agrees a q (expression e) r t f =
+      require-agrees bytes at _ _ (rw (attribute-by-index bytes s index (h .known) a q, ← (h .known .attributes-are))) 7 r t λ typed. f e refl
+
+  rule-agrees : Agrees bytes at (readRule s part (drop (at + 1) bytes)) (scanRule bytes (progress s at part) index)
+  unfolding readRule scanRule ruleScope pieceAt
+  rule-agrees =
+      let k = getD bytes (at + 1) 0 in
+      let a = getD bytes (at + 2) 0 in
+      let n = ofBytes (take 2 (drop (at + 3) bytes)) in
+      rw (operand bytes at 0, operand bytes at 1, operands bytes at 2, operands bytes at 4)
+      (require-agrees bytes at (leb part 3 && leb (4 + n) (length (drop (at + 1) bytes)) && leb 4 (length (drop (at + 1) bytes))) _
+      (rule-long bytes at inside (leb part 3) n) 2 _ _ λ test.
+      let fits = rule-fits bytes at inside (leb part 3) n test in
+      require-both-agrees bytes at (leb k 15) (ltb a (attributeCount s)) _ _ refl (λ kind. refl) 4 _ _ λ kind declared.
+      require-agrees bytes at (isNone (ruleFor (s .rules) k a)) _
+      (rw (h .known .rules k a (omega (arith, tests)) (omega (arith, tests))) (is-indexed _ _)) 5 _ _ λ new.
+      require-rule-agrees a (omega (arith, tests)) _ _ _ λ e read.
+      next (rw add-assoc) record {
+        known = rule-indexed bytes s index (h .known) a at (omega (arith, tests)) k (omega (arith, tests))
+            (fits, omega (arith, read-short _ _ e read, length-take-le n (drop (at + 5) bytes) (omega (arith, length-drop (at + 5) bytes))));
+        declaring = λ p. absurd (omega arith);
+      })
+
+  end-agrees : Agrees bytes at (readEnd (drop (at + 1) bytes)) (scanEnd bytes (progress s at part))
+  unfolding readEnd scanEnd
+  end-agrees = go (eqb (at + 1) (length bytes)) refl
+    where
+      go : (b : Bool) → eqb (at + 1) (length bytes) ≡ b → Agrees bytes at (readEnd (drop (at + 1) bytes)) (cond b ends (stops 2 1))
+      go true e = rw (drop-of-length-le bytes {i = at + 1} (omega (arith, eqb-true))) end
+      go false e = let later : at + 1 < length bytes = omega (arith, eqb-false (at + 1) (length bytes) e) in rw (drop-cons bytes (at + 1) 0) stop
+
+  command-agrees : (c : Command) → Agrees bytes at (readCommand s part c (drop (at + 1) bytes)) (scanAt bytes (progress s at part) index c)
+  unfolding readCommand scanAt
+  command-agrees attribute-command = attribute-agrees
+  command-agrees node-command = node-agrees
+  command-agrees figure-command = figure-agrees
+  command-agrees rule-command = rule-agrees
+  command-agrees end-command = end-agrees
+  command-agrees no-command = stop
+
+pub next-agrees : (bytes : List ℕ) (s : Sheet) (at part : ℕ) (index : List ℕ) → SoFar bytes s at part index
+    → Agrees bytes at (readNext s part (drop at bytes)) (scanCommand bytes (progress s at part) index)
+unfolding readNext scanCommand
+next-agrees bytes s at part index h = go (ltb at (length bytes)) refl
+  where
+    go : (b : Bool) → ltb at (length bytes) ≡ b
+        → Agrees bytes at (readNext s part (drop at bytes)) (cond b (scanAt bytes (progress s at part) index (commandOf (getD bytes at 0))) (stops 2 0))
+    go true e =
+        let inside = ltb-true at (length bytes) e in
+        rw (drop-cons bytes at 0 inside, ← (add-one at)) (command-agrees bytes s at part index h inside (commandOf (getD bytes at 0)))
+    go false e = rw (drop-of-length-le bytes {i = at} (ltb-false at (length bytes) e)) stop
+
+-- ---- The pass
+
+-- What the check and the pass come to.
+abbrev Outcome : List ℕ → Checked Sheet → Scan → Type 0
+Outcome bytes (refused number place) r = r .check ≡ Refused number place
+Outcome bytes (accepted s) r = (r .check ≡ Accepted (attributeCount s) (nodeCount s)) × Indexed bytes s (r .index)
+
+commands-agree : (bytes : List ℕ) (k : ℕ) (s : Sheet) (at part : ℕ) (index : List ℕ) → SoFar bytes s at part index
+    → Outcome bytes (readCommands k s part at (drop at bytes)) (scanFrom k bytes (progress s at part) index)
+unfolding readCommands scanFrom complete scanned
+commands-agree bytes zero s at part index h = refl
+commands-agree bytes (suc k) s at part index h = go (commands-agree bytes k) _ _ refl refl (next-agrees bytes s at part index h)
+  where
+    finish : (o : Option ℕ) → Outcome bytes (complete s o) (scanned (progress s at part) index o)
+    finish none = (refl, h .known)
+    finish (some place) = refl
+
+    go : ((s′ : Sheet) (at′ part′ : ℕ) (index′ : List ℕ) → SoFar bytes s′ at′ part′ index′
+        → Outcome bytes (readCommands k s′ part′ at′ (drop at′ bytes)) (scanFrom k bytes (progress s′ at′ part′) index′))
+        → (r : Read) (t : Scanned) → readNext s part (drop at bytes) ≡ r → scanCommand bytes (progress s at part) index ≡ t → Agrees bytes at r t
+        → Outcome bytes (readCommands (suc k) s part at (drop at bytes)) (scanFrom (suc k) bytes (progress s at part) index)
+    go ih r t e f stop = rw (e, readCommands, f, scanFrom)
+    go ih r t e f end =
+        rw (e, readCommands, f, scanFrom, gap-from bytes s index (h .known) (nodeCount s) 0 (omega arith))
+        (finish (missingFrom bytes index (attributeCount s) (nodeCount s) 0))
+    go ih r t e f (next same so-far) = rw (e, readCommands, f, scanFrom, drop-drop, same) (ih _ _ _ _ so-far)
+
+pub start-so-far : (bytes index : List ℕ) → length bytes ≤ 65536 → length index ≡ indexSize → SoFar bytes emptySheet 0 0 (clearRow 512 32768 index)
+unfolding attributesIn kindsIn
+start-so-far bytes index short size = declared record {
+  size = clear-length 512 32768 index ∙ size;
+  short = short;
+  attributes-are = refl;
+  kinds-are = refl;
+  reached = refl;
+  within = omega arith;
+  attributes-bound = omega arith;
+  nodes-bound = omega arith;
+  types-bound = λ a p. absurd (omega arith);
+  kinds-bound = λ n p. absurd (omega arith);
+  no-nodes = λ p. refl;
+  no-figures = refl;
+  no-rules = refl;
+  clear-rows = λ n p. absurd (omega arith);
+  clear-rules = λ k a p q. clear-same 512 32768 (rulePlace k a) index (omega arith) (omega arith) (omega arith);
+}
+
+sheet-agrees : (bytes index : List ℕ) → length index ≡ indexSize → Outcome bytes (checkSheet bytes) (scanSheet bytes index)
+unfolding checkSheet scanSheet
+sheet-agrees bytes index size = go (leb (length bytes) 65536) refl
+  where
+    go : (b : Bool) → leb (length bytes) 65536 ≡ b
+        → Outcome bytes (cond b (readCommands (suc (length bytes)) emptySheet 0 0 bytes) (refused 1 0))
+        (cond b (scanFrom (suc (length bytes)) bytes start (clearRow 512 32768 index)) record { check = Refused 1 0; index = index })
+    go false e = refl
+    go true e =
+        commands-agree bytes (suc (length bytes)) emptySheet 0 0 (clearRow 512 32768 index)
+        (start-so-far bytes index (leb-true (length bytes) 65536 e) size)
+
+pub scan-checks : (bytes index : List ℕ) → length index ≡ indexSize → scanSheet bytes index .check ≡ checkOf (checkSheet bytes)
+unfolding checkOf
+scan-checks bytes index size = go (checkSheet bytes) (sheet-agrees bytes index size)
+  where
+    go : (c : Checked Sheet) → Outcome bytes c (scanSheet bytes index) → scanSheet bytes index .check ≡ checkOf c
+    go (refused number place) h = h
+    go (accepted s) h = h .0
+
+pub scan-indexes : (bytes index : List ℕ) (s : Sheet) → length index ≡ indexSize → checkSheet bytes ≡ accepted s → Indexed bytes s (scanSheet bytes index .index)
+scan-indexes bytes index s size e = subst (λ c. Outcome bytes c (scanSheet bytes index)) e (sheet-agrees bytes index size) .1
+
+-- ---- The index's length
+
+abbrev Keeps : ℕ → Scanned → Type 0
+Keeps n (stops number offset) = Unit {0}
+Keeps n ends = Unit {0}
+Keeps n (goes-on p index) = length index ≡ n
+
+demand-keeps : (n : ℕ) (b : Bool) (number : ℕ) (t : Scanned) → Keeps n t → Keeps n (demand b number t)
+unfolding demand
+demand-keeps n true number t h = h
+demand-keeps n false number t h = tt
+
+demand-rule-keeps : (n : ℕ) (bytes : List ℕ) (p : Progress) (a : ℕ) (w : Whole) (t : Scanned) → Keeps n t → Keeps n (demandRule bytes p a w t)
+unfolding demandRule
+demand-rule-keeps n bytes p a no-expression t h = tt
+demand-rule-keeps n bytes p a (expression e) t h = demand-keeps n _ 7 t h
+
+end-keeps : (n : ℕ) (b : Bool) → Keeps n (cond b ends (stops 2 1))
+end-keeps n true = tt
+end-keeps n false = tt
+
+command-keeps : (bytes : List ℕ) (p : Progress) (index : List ℕ) (c : Command) → Keeps (length index) (scanAt bytes p index c)
+unfolding scanAt scanAttribute scanNode scanFigure scanRule scanEnd
+command-keeps bytes p index attribute-command = demand-keeps _ _ _ _ (demand-keeps _ _ _ _ (demand-keeps _ _ _ _ refl))
+command-keeps bytes p index node-command = demand-keeps _ _ _ _ (demand-keeps _ _ _ _ (demand-keeps _ _ _ _ (clear-length 32 _ index)))
+command-keeps bytes p index figure-command = demand-keeps _ _ _ _ (demand-keeps _ _ _ _ (demand-keeps _ _ _ _ (length-set index _ _)))
+command-keeps bytes p index rule-command =
+    demand-keeps _ _ _ _ (demand-keeps _ _ _ _ (demand-keeps _ _ _ _ (demand-rule-keeps _ _ _ _ _ _ (length-set index _ _))))
+command-keeps bytes p index end-command = end-keeps (length index) (eqb (p .at + 1) (length bytes))
+command-keeps bytes p index no-command = tt
+
+next-keeps : (bytes : List ℕ) (p : Progress) (index : List ℕ) → Keeps (length index) (scanCommand bytes p index)
+unfolding scanCommand
+next-keeps bytes p index = go (ltb (p .at) (length bytes))
+  where
+    go : (b : Bool) → Keeps (length index) (cond b (scanAt bytes p index (commandOf (getD bytes (p .at) 0))) (stops 2 0))
+    go true = command-keeps bytes p index (commandOf (getD bytes (p .at) 0))
+    go false = tt
+
+pass-length : (bytes : List ℕ) (k : ℕ) (p : Progress) (index : List ℕ) → length (scanFrom k bytes p index .index) ≡ length index
+unfolding scanFrom scanned
+pass-length bytes zero p index = refl
+pass-length bytes (suc k) p index = go (pass-length bytes k) (scanCommand bytes p index) refl (next-keeps bytes p index)
+  where
+    finish : (o : Option ℕ) → length (scanned p index o .index) ≡ length index
+    finish none = refl
+    finish (some place) = refl
+
+    go : ((p′ : Progress) (index′ : List ℕ) → length (scanFrom k bytes p′ index′ .index) ≡ length index′)
+        → (t : Scanned) → scanCommand bytes p index ≡ t → Keeps (length index) t → length (scanFrom (suc k) bytes p index .index) ≡ length index
+    go ih (stops number offset) e h = rw (e, scanFrom)
+    go ih ends e h = rw (e, scanFrom) (finish (missingFrom bytes index (p .attributes) (p .nodes) 0))
+    go ih (goes-on p′ index′) e h = rw (e, scanFrom) (ih p′ index′ ∙ h)
+
+pub scan-length : (bytes index : List ℕ) → length (scanSheet bytes index .index) ≡ length index
+unfolding scanSheet
+scan-length bytes index = go (leb (length bytes) 65536)
+  where
+    go : (b : Bool)
+        → length (cond b (scanFrom (suc (length bytes)) bytes start (clearRow 512 32768 index)) record { check = Refused 1 0; index = index } .index) ≡ length index
+    go true = pass-length bytes (suc (length bytes)) start (clearRow 512 32768 index) ∙ clear-length 512 32768 index
+    go false = refl
+
+-- ---- What the code's check comes to
+
+long-refused : (bytes : List ℕ) → 65536 < length bytes → checkSheet bytes ≡ refused 1 0
+unfolding checkSheet
+long-refused bytes h = rw (lt-leb _ _ h)
+
+module _ (bytes index : List ℕ) where
+  pub long-checks : 65536 < length bytes → Checks bytes (Refused 1 0) index
+  unfolding checkOf
+  long-checks h =
+      let e = long-refused bytes h in
+      record { checked = rw e; indexes = λ s f. absurd (let z : _≡_ {A = ℕ} 0 1 = cc in omega arith) }
+
+  pass-is : length bytes ≤ 65536 → scanSheet bytes index ≡ scanFrom (suc (length bytes)) bytes start (clearRow 512 32768 index)
+  unfolding scanSheet
+  pass-is h = rw (le-leb _ _ h)
+
+  pub short-checks : (r : SheetCheck) (after : List ℕ) → length index ≡ indexSize → length bytes ≤ 65536
+      → scanOf r after ≡ scanFrom (suc (length bytes)) bytes start (clearRow 512 32768 index) → Checks bytes r after
+  short-checks r after size h e =
+      let same = e ∙ sym (pass-is h) in
+      record {
+        checked = ap (λ s. s .check) same ∙ scan-checks bytes index size;
+        indexes = λ s f. subst (λ l. Indexed bytes s l) (sym (ap (λ s. s .index) same)) (scan-indexes bytes index s size f);
+      }

@@ -1,0 +1,356 @@
+// The check of a sheet and the index that it fills: stops 1 to 8 (document 01, "The sheet" and "Stops by origin").
+use expressions::Formed;
+use specs::Value;
+ghost use mathlib.Core.Path.{_≡_};
+ghost use mathlib.Core.List.{List};
+ghost use Prim.Native.Nat.{ℕ, suc, _+_, _-_, _*_, _≤_, _<_};
+ghost use lib.ListN.{length, getD};
+ghost use Rattle.sheets.specs.Scan.{figurePlace, figureAt, pieceAt, indexed, indexSize, clearRow, scanAttribute, scanNode, scanFigure, scanRule, scanEnd, scanCommand, isIndexed, missingAt, missingFrom, scanned, scanFrom, start, Reading, readOf, ReadAs, Declared, gapOf, scanOf, Checks, IndexedPair, IndexedRule, ruleNumber, figureOf};
+
+// What is known of a sheet part way through its check: the offset reached, the part of the sheet reached (0 attributes, 1 nodes,
+// 2 figures, 3 rules), and how many attributes and nodes are declared.
+pub struct Progress {
+    pub at: usize,
+    pub part: u32,
+    pub attributes: usize,
+    pub nodes: usize,
+}
+
+// Stop 1 to 8 with its place, or an accepted sheet with the numbers of its attributes and nodes.
+pub enum SheetCheck {
+    Refused(u32, usize),
+    Accepted(usize, usize),
+}
+
+// What reading one command comes to: a stop with an offset from the command, the end command, or what is known after it.
+enum Read {
+    Stops(u32, usize),
+    Ends,
+    GoesOn(Progress),
+}
+
+// A pair without definition, as node × 32 + attribute.
+enum Gap {
+    At(usize),
+    Nowhere,
+}
+
+// A definition that is a figure, if it is one.
+pub enum FoundFigure {
+    Of(Value),
+    NoFigure,
+}
+
+fn wide(b: u8) -> usize
+    ensures { λ r. ⌜ (r ≡ b) × (r < 256) ⌝ }
+{
+    b as usize
+}
+
+// `count` places of the index from `from` on are made empty.
+fn clear(index: &mut [u32], from: usize, count: usize)
+    requires { ⌜ from + count ≤ length (now index) ⌝ }
+    ensures { λ _. ⌜ now (index .exit) ≡ clearRow count from (now (index .entry)) ⌝ }
+{
+    let mut i = from;
+    let end = from + count;
+    while i < end {
+        index[i] = 0;
+        i += 1;
+    }
+}
+
+fn read_attribute(sheet: &[u8], p: Progress) -> Read
+    requires { ⌜ Reading (now sheet) p ⌝ }
+    ensures { λ r. ⌜ ((index : List ℕ) → ReadAs r index index (scanAttribute (now (sheet .entry)) p index)) ⌝ }
+{
+    let at = p.at;
+    if 0 < p.part {
+        return Read::Stops(2, 0);
+    }
+    if sheet.len() < at + 3 {
+        return Read::Stops(2, 0);
+    }
+    if 32 <= p.attributes {
+        return Read::Stops(3, 0);
+    }
+    if 4 <= sheet[at + 1] {
+        return Read::Stops(4, 0);
+    }
+    if 4 <= sheet[at + 2] {
+        return Read::Stops(4, 0);
+    }
+    Read::GoesOn(Progress {
+        at: at + 3,
+        part: 0,
+        attributes: p.attributes + 1,
+        nodes: p.nodes,
+    })
+}
+
+fn read_node(sheet: &[u8], index: &mut [u32], p: Progress) -> Read
+    requires { ⌜ Reading (now sheet) p × (length (now index) ≡ indexSize) ⌝ }
+    ensures { λ r. ⌜ ReadAs r (now (index .exit)) (now (index .entry)) (scanNode (now (sheet .entry)) p (now (index .entry))) ⌝ }
+{
+    let at = p.at;
+    if 1 < p.part {
+        return Read::Stops(2, 0);
+    }
+    if sheet.len() < at + 2 {
+        return Read::Stops(2, 0);
+    }
+    if 1024 <= p.nodes {
+        return Read::Stops(3, 0);
+    }
+    if 15 < sheet[at + 1] {
+        return Read::Stops(4, 0);
+    }
+    clear(index, p.nodes * 32, 32);
+    Read::GoesOn(Progress {
+        at: at + 2,
+        part: 1,
+        attributes: p.attributes,
+        nodes: p.nodes + 1,
+    })
+}
+
+fn read_figure(sheet: &[u8], index: &mut [u32], p: Progress) -> Read
+    requires { ⌜ Reading (now sheet) p × (length (now index) ≡ indexSize) ⌝ }
+    ensures { λ r. ⌜ ReadAs r (now (index .exit)) (now (index .entry)) (scanFigure (now (sheet .entry)) p (now (index .entry))) ⌝ }
+{
+    let at = p.at;
+    if 2 < p.part {
+        return Read::Stops(2, 0);
+    }
+    if sheet.len() < at + 8 {
+        return Read::Stops(2, 0);
+    }
+    let n = values::two(sheet, at + 1) as usize;
+    let a = wide(sheet[at + 3]);
+    if p.nodes <= n {
+        return Read::Stops(4, 0);
+    }
+    if p.attributes <= a {
+        return Read::Stops(4, 0);
+    }
+    if !values::is_word(p.nodes, sheet[3 * a + 1], values::four(sheet, at + 4)) {
+        return Read::Stops(4, 0);
+    }
+    let place = n * 32 + a;
+    if index[place] != 0 {
+        return Read::Stops(5, 0);
+    }
+    index[place] = (at + 1) as u32;
+    Read::GoesOn(Progress {
+        at: at + 8,
+        part: 2,
+        attributes: p.attributes,
+        nodes: p.nodes,
+    })
+}
+
+fn read_rule(sheet: &[u8], index: &mut [u32], p: Progress) -> Read
+    requires { ⌜ Reading (now sheet) p × (length (now index) ≡ indexSize) ⌝ }
+    ensures { λ r. ⌜ ReadAs r (now (index .exit)) (now (index .entry)) (scanRule (now (sheet .entry)) p (now (index .entry))) ⌝ }
+{
+    let at = p.at;
+    let attributes = p.attributes;
+    let nodes = p.nodes;
+    if sheet.len() < at + 5 {
+        return Read::Stops(2, 0);
+    }
+    let start = at + 5;
+    let end = start + values::two(sheet, at + 3) as usize;
+    if sheet.len() < end {
+        return Read::Stops(2, 0);
+    }
+    let k = wide(sheet[at + 1]);
+    let a = wide(sheet[at + 2]);
+    if 15 < k {
+        return Read::Stops(4, 0);
+    }
+    if attributes <= a {
+        return Read::Stops(4, 0);
+    }
+    let place = 32768 + k * 32 + a;
+    if index[place] != 0 {
+        return Read::Stops(5, 0);
+    }
+    let formed = expressions::read_whole(
+        sheet,
+        attributes,
+        nodes,
+        true,
+        true,
+        sheet[3 * a + 2],
+        &sheet[start..end],
+    );
+    let Formed::Expression(t) = formed else {
+        return Read::Stops(6, 0);
+    };
+    if t != expressions::base_number(sheet[3 * a + 1]) {
+        return Read::Stops(7, 0);
+    }
+    index[place] = (at + 1) as u32;
+    Read::GoesOn(Progress {
+        at: end,
+        part: 3,
+        attributes,
+        nodes,
+    })
+}
+
+fn read_end(sheet: &[u8], p: Progress) -> Read
+    requires { ⌜ Reading (now sheet) p ⌝ }
+    ensures { λ r. ⌜ ((index : List ℕ) → ReadAs r index index (scanEnd (now (sheet .entry)) p)) ⌝ }
+{
+    let next = p.at + 1;
+    if next == sheet.len() {
+        Read::Ends
+    } else {
+        Read::Stops(2, 1)
+    }
+}
+
+// The command at the offset reached.
+fn read_command(sheet: &[u8], index: &mut [u32], p: Progress) -> Read
+    requires { ⌜ Reading (now sheet) p × (length (now index) ≡ indexSize) ⌝ }
+    ensures { λ r. ⌜ ReadAs r (now (index .exit)) (now (index .entry)) (scanCommand (now (sheet .entry)) p (now (index .entry))) ⌝ }
+{
+    let at = p.at;
+    if sheet.len() <= at {
+        return Read::Stops(2, 0);
+    }
+    let command = sheet[at];
+    match command {
+        0x41 => read_attribute(sheet, p),
+        0x4E => read_node(sheet, index, p),
+        0x56 => read_figure(sheet, index, p),
+        0x52 => read_rule(sheet, index, p),
+        0x5A => read_end(sheet, p),
+        _ => Read::Stops(2, 0),
+    }
+}
+
+fn is_defined(sheet: &[u8], index: &[u32], attributes: usize, n: usize, a: usize) -> bool
+    requires { ⌜ Declared (now sheet) (now index) attributes n × (a < attributes) ⌝ }
+    ensures { λ r. ⌜ r ≡ isIndexed (now (sheet .entry)) (now (index .entry)) attributes n a ⌝ }
+{
+    if index[n * 32 + a] != 0 {
+        return true;
+    }
+    let k = wide(sheet[3 * attributes + 2 * n + 1]);
+    index[32768 + k * 32 + a] != 0
+}
+
+fn gap_of_node(sheet: &[u8], index: &[u32], attributes: usize, n: usize) -> Gap
+    requires { ⌜ Declared (now sheet) (now index) attributes n ⌝ }
+    ensures { λ r. ⌜ gapOf r ≡ missingAt (now (sheet .entry)) (now (index .entry)) attributes attributes n 0 ⌝ }
+{
+    let mut a = 0;
+    while a < attributes {
+        if !is_defined(sheet, index, attributes, n, a) {
+            return Gap::At(n * 32 + a);
+        }
+        a += 1;
+    }
+    Gap::Nowhere
+}
+
+fn first_gap(sheet: &[u8], index: &[u32], attributes: usize, nodes: usize) -> Gap
+    requires { ⌜ ((n : ℕ) → n < nodes → Declared (now sheet) (now index) attributes n) ⌝ }
+    ensures { λ r. ⌜ gapOf r ≡ missingFrom (now (sheet .entry)) (now (index .entry)) attributes nodes 0 ⌝ }
+{
+    let mut n = 0;
+    while n < nodes {
+        let Gap::At(place) = gap_of_node(sheet, index, attributes, n) else {
+            n += 1;
+            continue;
+        };
+        return Gap::At(place);
+    }
+    Gap::Nowhere
+}
+
+fn complete(sheet: &[u8], index: &[u32], p: Progress) -> SheetCheck
+    requires { ⌜ ((n : ℕ) → n < p .nodes → Declared (now sheet) (now index) (p .attributes) n) ⌝ }
+    ensures { λ r. ⌜ scanOf r (now (index .entry))
+        ≡ scanned p (now (index .entry)) (missingFrom (now (sheet .entry)) (now (index .entry)) (p .attributes) (p .nodes) 0) ⌝ }
+{
+    let Gap::At(place) = first_gap(sheet, index, p.attributes, p.nodes) else {
+        return SheetCheck::Accepted(p.attributes, p.nodes);
+    };
+    SheetCheck::Refused(8, place)
+}
+
+// The commands from the front, then the pass for missing pairs. The rules' part of the index is cleared first.
+fn read_commands(sheet: &[u8], index: &mut [u32]) -> SheetCheck
+    requires { ⌜ (length (now sheet) ≤ 65536) × (length (now index) ≡ indexSize) ⌝ }
+    ensures { λ r. ⌜ scanOf r (now (index .exit))
+        ≡ scanFrom (suc (length (now (sheet .entry)))) (now (sheet .entry)) start (clearRow 512 32768 (now (index .entry))) ⌝ }
+{
+    clear(index, 32768, 512);
+    let mut p = Progress {
+        at: 0,
+        part: 0,
+        attributes: 0,
+        nodes: 0,
+    };
+    loop {
+        match read_command(sheet, index, p) {
+            Read::Stops(number, offset) => {
+                return SheetCheck::Refused(number, p.at + offset);
+            }
+            Read::Ends => {
+                return complete(sheet, index, p);
+            }
+            Read::GoesOn(next) => {
+                p = next;
+            }
+        }
+    }
+}
+
+// The check of a sheet. It fills the index: where each figure stands, at node × 32 + attribute, and each rule, at 32,768 + kind × 32 +
+// attribute, as the offset of its command and one, or 0.
+pub fn check(sheet: &[u8], index: &mut [u32; 33280]) -> SheetCheck
+    ensures { λ r. ⌜ Checks (now (sheet .entry)) r (now (index .exit)) ⌝ }
+{
+    if 65536 < sheet.len() {
+        return SheetCheck::Refused(1, 0);
+    }
+    read_commands(sheet, index)
+}
+
+// The figure of a pair, by one read of the index.
+pub fn figure(sheet: &[u8], index: &[u32], n: usize, a: usize) -> FoundFigure
+    requires { ⌜ IndexedPair (now sheet) (now index) n a ⌝ }
+    ensures { λ r. ⌜ figureOf r ≡ indexed (getD (now (index .entry)) (figurePlace n a) 0) (figureAt (now (sheet .entry)) a) ⌝ }
+{
+    let place = index[n * 32 + a] as usize;
+    if place == 0 {
+        return FoundFigure::NoFigure;
+    }
+    FoundFigure::Of(values::value_of(sheet[3 * a + 1], values::four(sheet, place + 3)))
+}
+
+// The piece of the rule for a node's kind and an attribute, as a part of the sheet.
+pub fn rule<'a>(sheet: &'a [u8], index: &[u32], attributes: usize, n: usize, a: usize) -> &'a [u8]
+    requires { ⌜ IndexedRule (now sheet) (now index) attributes n a ⌝ }
+    ensures { λ r. ⌜ now r ≡ pieceAt (now (sheet .entry)) (ruleNumber (now (sheet .entry)) (now (index .entry)) attributes n a - 1) ⌝ }
+{
+    let k = wide(sheet[3 * attributes + 2 * n + 1]);
+    let place = index[32768 + k * 32 + a] as usize;
+    let start = place + 4;
+    let end = start + values::two(sheet, place + 2) as usize;
+    &sheet[start..end]
+}
+
+// Where that piece starts in the sheet.
+pub fn rule_start(sheet: &[u8], index: &[u32], attributes: usize, n: usize, a: usize) -> usize
+    requires { ⌜ IndexedRule (now sheet) (now index) attributes n a ⌝ }
+    ensures { λ r. ⌜ r ≡ ruleNumber (now (sheet .entry)) (now (index .entry)) attributes n a + 4 ⌝ }
+{
+    let k = wide(sheet[3 * attributes + 2 * n + 1]);
+    index[32768 + k * 32 + a] as usize + 4
+}

@@ -1,0 +1,136 @@
+-- `stores::is_entry` meets its contract: each answer by the test that gives it (Checks.antt).
+use mathlib.Core.Path.{sym, _∙_}
+use borrow.Author.Tests.{not-true, not-false}
+use borrow.Author.Needs.{needs}
+use Rattle.stores.proofs.Checks.{node-fails, attribute-fails, zero-fails, parameter-fails, by-value}
+use Rattle.stores.proofs.is_entry.Statement.{statement}
+use Rattle.stores.proofs.is_entry.Tie as tie
+
+mul-at : tie.Need-mul-at
+mul-at c = search needs
+
+add-wide : tie.Need-add-wide
+add-wide c = search needs
+
+shared-slice-read-wide : tie.Need-shared-slice-read-wide
+shared-slice-read-wide c = search needs
+
+wide-requires : tie.Need-wide-requires
+wide-requires c κs = search needs
+
+cast-a : tie.Need-cast-a
+cast-a c = search needs
+
+two-requires : tie.Need-two-requires
+two-requires c κs = search needs
+
+cast-if1 : tie.Need-cast-if1
+cast-if1 c = search needs
+
+returns : tie.Need-returns
+returns c s a n =
+    let args = c .before .before .before .before .before .before .args in
+    sym (node-fails s _ _ _ a n (args .store .now) (args .i) (rw (c .before .two .ensures) at (c .if1 .taken)))
+
+returns-2 : tie.Need-returns-2
+returns-2 c s a n =
+    let args = c .before .before .before .before .before .before .before .args in
+    sym (attribute-fails s _ _ _ a n (args .store .now) (args .i) (rw (c .before .before .before .wide .ensures) at (c .if2 .taken)))
+
+add-if3 : tie.Need-add-if3
+add-if3 c = search needs
+
+shared-slice-read-if3 : tie.Need-shared-slice-read-if3
+shared-slice-read-if3 c = search needs
+
+returns-3 : tie.Need-returns-3
+returns-3 c s a n =
+    let args = c .before .before .before .before .before .before .before .before .before .args in
+    sym (zero-fails s _ _ _ a n (args .store .now) (args .i) (c .if3 .taken))
+
+mul-is-word : tie.Need-mul-is-word
+mul-is-word c = search needs
+
+add-is-word : tie.Need-add-is-word
+add-is-word c = search needs
+
+shared-slice-read-is-word : tie.Need-shared-slice-read-is-word
+shared-slice-read-is-word c = search needs
+
+add-four : tie.Need-add-four
+add-four c = search needs
+
+four-requires : tie.Need-four-requires
+four-requires c κs = search needs
+
+is-word-requires : tie.Need-is-word-requires
+is-word-requires c κs = search needs
+
+returns-4 : tie.Need-returns-4
+returns-4 c s a n =
+    let args = c .before .before .before .before .before .before .before .before .before .before .before .before .before .args in
+    let attribute = c .before .before .before .before .before .before .before .before .before .wide .ensures in
+    let word = c .before .before .four .ensures in
+    let declared = rw attribute at (c .before .before .before .before .before .before .if2 .left) in
+    sym (parameter-fails s _ _ _ a n (args .store .now) (args .i) declared (rw (← attribute, ← word) (sym (c .before .is-word .ensures) ∙ not-true (c .before .is-word .result) (c .if4 .taken))))
+
+mul-is-word-2 : tie.Need-mul-is-word-2
+mul-is-word-2 c = search needs
+
+add-is-word-2 : tie.Need-add-is-word-2
+add-is-word-2 c = search needs
+
+shared-slice-read-is-word-2 : tie.Need-shared-slice-read-is-word-2
+shared-slice-read-is-word-2 c = search needs
+
+add-four-2 : tie.Need-add-four-2
+add-four-2 c = search needs
+
+four-requires-2 : tie.Need-four-requires-2
+four-requires-2 c κs = search needs
+
+is-word-requires-2 : tie.Need-is-word-requires-2
+is-word-requires-2 c κs = search needs
+
+returns-5 : tie.Need-returns-5
+returns-5 c s a n =
+    let args = c .before .before .before .before .before .before .before .before .before .before .before .before .before .before .before .before .args in
+    let attribute = c .before .before .before .before .before .before .before .before .before .before .before .before .wide .ensures in
+    let word = c .before .before .before .before .before .four .ensures in
+    let declared = rw attribute at (c .before .before .before .before .before .before .before .before .before .if2 .left) in
+    let node = rw (c .before .before .before .before .before .before .before .before .before .before .before .two .ensures) at (c .before .before .before .before .before .before .before .before .before .before .if1 .left) in
+    let value = c .before .four2 .ensures in
+    c .is-word2 .ensures
+    ∙ rw (attribute, value)
+    (sym (by-value s _ _ _ a n (args .store .now) (args .i) declared node (c .before .before .before .before .before .before .before .if3 .left) (rw (← attribute, ← word) (sym (c .before .before .before .before .is-word .ensures) ∙ not-false (c .before .before .before .before .is-word .result) (c .before .before .before .if4 .left)))))
+
+pub is-entry-spec : {M : Type 1} → statement M
+is-entry-spec =
+    tie.close
+    (tie.spec
+    mul-at
+    add-wide
+    shared-slice-read-wide
+    wide-requires
+    cast-a
+    two-requires
+    cast-if1
+    returns
+    returns-2
+    add-if3
+    shared-slice-read-if3
+    returns-3
+    mul-is-word
+    add-is-word
+    shared-slice-read-is-word
+    add-four
+    four-requires
+    is-word-requires
+    returns-4
+    mul-is-word-2
+    add-is-word-2
+    shared-slice-read-is-word-2
+    add-four-2
+    four-requires-2
+    is-word-requires-2
+    returns-5)

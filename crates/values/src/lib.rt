@@ -1,0 +1,260 @@
+// The function layer and the four-byte form of values (document 01, "Values and functions").
+use specs::Function;
+use specs::Holding;
+use specs::Value;
+ghost use mathlib.Core.Path.{_≡_};
+ghost use mathlib.Core.Bool.{true};
+ghost use Prim.Native.Nat.{_+_, _%_, _≤_, _<_};
+ghost use lib.IntN.{_+ℤ_, _-ℤ_};
+ghost use lib.ListN.{length, take, drop};
+ghost use lib.Seq.{sets};
+ghost use Rattle.specs.specs.Values.{baseOf, held as heldOf, truth as truthOf, number as numberOf, nodeOf, applyFunction, applyHolding, apply as applied, ofBytes, toBytes, signed as signedOf, unsigned as unsignedOf, isWord, ofWord, toWord, typeCode, decimal as decimalOf};
+
+fn long(z: i32) -> i64
+    ensures { λ r. ⌜ r ≡ z ⌝ }
+{
+    z as i64
+}
+
+fn sum(y: i32, x: i32) -> i64
+    ensures { λ r. ⌜ r ≡ y +ℤ x ⌝ }
+{
+    long(y) + long(x)
+}
+
+fn difference(y: i32, x: i32) -> i64
+    ensures { λ r. ⌜ r ≡ y -ℤ x ⌝ }
+{
+    long(y) - long(x)
+}
+
+// A sum or difference, held at the ends of Int.
+pub fn held(z: i64) -> i32
+    ensures { λ r. ⌜ r ≡ heldOf z ⌝ }
+{
+    if z < -2147483648 {
+        return -2147483648;
+    }
+    if 2147483647 < z {
+        return 2147483647;
+    }
+    z as i32
+}
+
+pub fn truth(v: Value) -> bool
+    ensures { λ r. ⌜ r ≡ truthOf v ⌝ }
+{
+    match v {
+        Value::Bool(b) => b,
+        Value::Unit => false,
+        Value::Int(_) => false,
+        Value::Node(_) => false,
+        Value::Function(_) => false,
+        Value::Holding(_) => false,
+    }
+}
+
+pub fn number(v: Value) -> i32
+    ensures { λ r. ⌜ r ≡ numberOf v ⌝ }
+{
+    match v {
+        Value::Int(z) => z,
+        Value::Unit => 0,
+        Value::Bool(_) => 0,
+        Value::Node(_) => 0,
+        Value::Function(_) => 0,
+        Value::Holding(_) => 0,
+    }
+}
+
+pub fn node_of(v: Value) -> u16
+    ensures { λ r. ⌜ r ≡ nodeOf v ⌝ }
+{
+    match v {
+        Value::Node(n) => n,
+        Value::Unit => 65535,
+        Value::Bool(_) => 65535,
+        Value::Int(_) => 65535,
+        Value::Function(_) => 65535,
+        Value::Holding(_) => 65535,
+    }
+}
+
+fn apply_function(f: Function, x: Value) -> Value
+    ensures { λ r. ⌜ r ≡ applyFunction f x ⌝ }
+{
+    match f {
+        Function::Le => Value::Holding(Holding::Le(number(x))),
+        Function::EqualInt => Value::Holding(Holding::EqualInt(number(x))),
+        Function::EqualNode => Value::Holding(Holding::EqualNode(node_of(x))),
+        Function::Not => Value::Bool(!truth(x)),
+        Function::Add => Value::Holding(Holding::Add(number(x))),
+        Function::Subtract => Value::Holding(Holding::Subtract(number(x))),
+    }
+}
+
+fn apply_holding(h: Holding, x: Value) -> Value
+    ensures { λ r. ⌜ r ≡ applyHolding h x ⌝ }
+{
+    match h {
+        Holding::Le(y) => Value::Bool(y <= number(x)),
+        Holding::EqualInt(y) => Value::Bool(y == number(x)),
+        Holding::EqualNode(y) => Value::Bool(y == node_of(x)),
+        Holding::Add(y) => Value::Int(held(sum(y, number(x)))),
+        Holding::Subtract(y) => Value::Int(held(difference(y, number(x)))),
+    }
+}
+
+// A function value applied to its argument.
+pub fn apply(f: Value, x: Value) -> Value
+    ensures { λ r. ⌜ r ≡ applied f x ⌝ }
+{
+    match f {
+        Value::Function(g) => apply_function(g, x),
+        Value::Holding(h) => apply_holding(h, x),
+        Value::Unit => Value::Unit,
+        Value::Bool(_) => Value::Unit,
+        Value::Int(_) => Value::Unit,
+        Value::Node(_) => Value::Unit,
+    }
+}
+
+// The Int of an unsigned number of four bytes, and the number of an Int.
+pub fn signed(w: u32) -> i32
+    ensures { λ r. ⌜ r ≡ signedOf w ⌝ }
+{
+    if w < 2147483648 {
+        w as i32
+    } else {
+        -1 - (4294967295 - w) as i32
+    }
+}
+
+pub fn unsigned(z: i32) -> u32
+    ensures { λ r. ⌜ r ≡ unsignedOf z ⌝ }
+{
+    if z < 0 {
+        4294967295 - (-1 - z) as u32
+    } else {
+        z as u32
+    }
+}
+
+fn wide(x: u8) -> u32
+    ensures { λ r. ⌜ (r ≡ x) × (r < 256) ⌝ }
+{
+    x as u32
+}
+
+// Two and four bytes as a number, little-endian.
+pub fn two(s: &[u8], at: usize) -> u32
+    requires { ⌜ at + 2 ≤ length (now s) ⌝ }
+    ensures { λ r. ⌜ r ≡ ofBytes (take 2 (drop at (now (s .entry)))) ⌝ }
+{
+    let a = wide(s[at]);
+    let b = wide(s[at + 1]);
+    a + 256 * b
+}
+
+pub fn four(s: &[u8], at: usize) -> u32
+    requires { ⌜ at + 4 ≤ length (now s) ⌝ }
+    ensures { λ r. ⌜ r ≡ ofBytes (take 4 (drop at (now (s .entry)))) ⌝ }
+{
+    let a = wide(s[at]);
+    let b = wide(s[at + 1]);
+    let c = wide(s[at + 2]);
+    let d = wide(s[at + 3]);
+    a + 256 * (b + 256 * (c + 256 * d))
+}
+
+// A number's last byte.
+fn low(n: u32) -> u8
+    ensures { λ r. ⌜ r ≡ n % 256 ⌝ }
+{
+    (n % 256) as u8
+}
+
+// A number's last two and last four bytes, written little-endian.
+pub fn put_two(s: &mut [u8], at: usize, n: u32)
+    requires { ⌜ at + 2 ≤ length (now s) ⌝ }
+    ensures { λ r. ⌜ now (s .exit) ≡ sets (now (s .entry)) at (toBytes 2 n) ⌝ }
+{
+    s[at] = low(n);
+    s[at + 1] = low(n / 256);
+}
+
+pub fn put_four(s: &mut [u8], at: usize, n: u32)
+    requires { ⌜ at + 4 ≤ length (now s) ⌝ }
+    ensures { λ r. ⌜ now (s .exit) ≡ sets (now (s .entry)) at (toBytes 4 n) ⌝ }
+{
+    s[at] = low(n);
+    s[at + 1] = low(n / 256);
+    s[at + 2] = low(n / 256 / 256);
+    s[at + 3] = low(n / 256 / 256 / 256);
+}
+
+// Whether a number is the four-byte form of a value of the type with this code.
+pub fn is_word(nodes: usize, code: u8, w: u32) -> bool
+    ensures { λ r. ⌜ r ≡ isWord nodes (baseOf code) w ⌝ }
+{
+    match code {
+        0 => w == 0,
+        1 => w < 2,
+        2 => true,
+        _ => (w as usize) < nodes || w == 65535,
+    }
+}
+
+// The value of such a number.
+pub fn value_of(code: u8, w: u32) -> Value
+    requires { ⌜ isWord 1024 (baseOf code) w ≡ true ⌝ }
+    ensures { λ r. ⌜ r ≡ ofWord (baseOf code) w ⌝ }
+{
+    match code {
+        0 => Value::Unit,
+        1 => Value::Bool(w == 1),
+        2 => Value::Int(signed(w)),
+        _ => Value::Node(w as u16),
+    }
+}
+
+// The four-byte form of a value.
+pub fn word_of(v: Value) -> u32
+    ensures { λ r. ⌜ r ≡ toWord v ⌝ }
+{
+    match v {
+        Value::Unit => 0,
+        Value::Bool(b) => if b { 1 } else { 0 },
+        Value::Int(z) => unsigned(z),
+        Value::Node(n) => n as u32,
+        Value::Function(_) => 0,
+        Value::Holding(_) => 0,
+    }
+}
+
+// The code of an answer's type, and its value as a number; 4 and 0 of a function, which no answer brings.
+pub fn type_code(v: Value) -> u8
+    ensures { λ r. ⌜ r ≡ typeCode v ⌝ }
+{
+    match v {
+        Value::Unit => 0,
+        Value::Bool(_) => 1,
+        Value::Int(_) => 2,
+        Value::Node(_) => 3,
+        Value::Function(_) => 4,
+        Value::Holding(_) => 4,
+    }
+}
+
+pub fn decimal(v: Value) -> i64
+    ensures { λ r. ⌜ r ≡ decimalOf v ⌝ }
+{
+    match v {
+        Value::Unit => 0,
+        Value::Bool(b) => if b { 1 } else { 0 },
+        Value::Int(z) => long(z),
+        Value::Node(n) => n as i64,
+        Value::Function(_) => 0,
+        Value::Holding(_) => 0,
+    }
+}
