@@ -1,12 +1,22 @@
 // The checks of a question call: stops 1 to 13 in their order (document 01, "Stops by origin").
 use expressions::QuestionCheck;
 use sheets::SheetCheck;
+use specs::Value;
 use stores::StoreCheck;
 ghost use mathlib.Core.Path.{_≡_};
 ghost use Prim.Native.Nat.{_*_, _≤_};
 ghost use lib.ListN.{length};
 ghost use Rattle.specs.specs.Sheet.{Sheet};
+ghost use mathlib.Core.List.{[]};
+ghost use Rattle.specs.specs.Ask.{refusal};
+ghost use Rattle.checks.specs.Answers.{answerOf};
 ghost use Rattle.checks.specs.Verdict.{onBudget, SheetOf, StoreQuestion, CallChecked};
+
+// What a call brings: the value with its steps and the number kept, or a refusal with its number, place, steps and the number kept.
+pub enum Answer {
+    Value(Value, usize, usize),
+    Refusal(u32, usize, usize, usize),
+}
 
 // The number and place of the first stop, or the numbers of attributes and nodes of an accepted sheet.
 pub enum Verdict {
@@ -77,4 +87,11 @@ pub fn check(
             links,
         ),
     }
+}
+
+// The answer of a call that is refused before its run: no steps, and what was kept stays.
+pub fn refuse(number: u32, place: usize, kept: usize) -> Answer
+    ensures { λ r. ⌜ answerOf r ≡ refusal [] kept number place .answer ⌝ }
+{
+    Answer::Refusal(number, place, 0, kept)
 }

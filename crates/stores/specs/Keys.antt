@@ -52,7 +52,7 @@ foundOf (some j) = At j
 
 -- ---- Entries
 
--- the entry that twelve bytes of the store hold, counted from 0
+-- entry j, which twelve bytes hold
 abbrev pub entryAt : Sheet → List ℕ → ℕ → Entry
 entryAt s store j = entryOf s (take 12 (drop (12 * j) store))
 

@@ -17,17 +17,17 @@ abbrev μ-loop : tie.MeasureT-loop
 returns : tie.Need-returns Inv-loop μ-loop
 returns c =
     let start = c .before .before .before .before in
-    check-refuses _ _ _ _ _ _ 9 0 (λ s a n. part-left s (start .args .store .now) (start .args .kept) (c .if1 .taken)) (start .pre .1)
+    check-refuses _ _ _ _ _ _ 9 0 (λ s a n. part-left s (start .args .store .now) (start .args .kept) (omega arith)) (start .pre .1)
 
 returns-2 : tie.Need-returns-2 Inv-loop μ-loop
 returns-2 c =
     let start = c .before .before .before .before .before in
-    check-refuses _ _ _ _ _ _ 9 0 (λ s a n. too-long s (start .args .store .now) (start .args .kept) (c .if2 .taken) (c .before .if1 .left)) (start .pre .1)
+    check-refuses _ _ _ _ _ _ 9 0 (λ s a n. too-long s (start .args .store .now) (start .args .kept) (omega arith) (omega arith)) (start .pre .1)
 
 returns-3 : tie.Need-returns-3 Inv-loop μ-loop
 returns-3 c =
     let start = c .before .before .before .before .before .before in
-    check-refuses _ _ _ _ _ _ 9 0 (λ s a n. too-many s (start .args .store .now) (start .args .kept) (c .if3 .taken) (c .before .before .if1 .left) (c .before .if2 .left)) (start .pre .1)
+    check-refuses _ _ _ _ _ _ 9 0 (λ s a n. too-many s (start .args .store .now) (start .args .kept) (omega arith) (omega arith) (omega arith)) (start .pre .1)
 
 clear-requires : tie.Need-clear-requires Inv-loop μ-loop
 clear-requires c κs = c .before .before .before .before .before .before .before .pre .1
@@ -46,10 +46,7 @@ returns-4 c =
     let args = c .before .before .before .before .before .before .before .before .before .before .before .before .before .before .before .args in
     let inv = c .before .before .before .before .loop .inv in
     let stops = check-stops _ _ _ _ _ _ _ inv (c .before .before .before .loop-test .taken) (c .before .passes .ensures) (not-true (c .before .passes .result) (c .if4 .taken)) in
-    let whole = c .before .before .before .before .before .before .before .before .before .before .before .if1 .left in
-    let short = c .before .before .before .before .before .before .before .before .before .before .if2 .left in
-    let fits = c .before .before .before .before .before .before .before .before .before .if3 .left in
-    check-refuses _ _ _ _ _ _ 10 _ (λ s a n. all-read s (args .store .now) (args .kept) whole short fits ∙ stops s a n) (inv .linked .size)
+    check-refuses _ _ _ _ _ _ 10 _ (λ s a n. all-read s (args .store .now) (args .kept) (omega arith) (omega arith) (omega arith) ∙ stops s a n) (inv .linked .size)
 
 link-requires : tie.Need-link-requires Inv-loop μ-loop
 link-requires c κs = (omega arith, omega arith, c .before .before .before .before .before .loop .inv .linked)
@@ -69,7 +66,7 @@ same-length-2 c = c .before .loop .inv .linked .size ∙ sym (c .before .before 
 returns-5 : tie.Need-returns-5 Inv-loop μ-loop
 returns-5 c =
     let all : c .before .loop .i ≡ c .before .before .before .before .before .before .before .before .before .before .before .before .args .kept = omega arith in
-    check-accepts _ _ _ _ _ _ (c .before .before .before .before .before .before .before .before .if1 .left) (c .before .before .before .before .before .before .before .if2 .left) (c .before .before .before .before .before .before .if3 .left) (rw all at (c .before .loop .inv))
+    check-accepts _ _ _ _ _ _ (omega arith) (omega arith) (omega arith) (rw all at (c .before .loop .inv))
 
 pub check-spec : {M : Type 1} → statement M
 check-spec =

@@ -1,5 +1,6 @@
 -- `stores::is_entry` meets its contract: each answer by the test that gives it (Checks.antt).
 use mathlib.Core.Path.{sym, _∙_}
+use native.Mathlib.Omega.{arith}
 use borrow.Author.Tests.{not-true, not-false}
 use borrow.Author.Needs.{needs}
 use Rattle.stores.proofs.Checks.{node-fails, attribute-fails, zero-fails, parameter-fails, by-value}
@@ -30,12 +31,12 @@ cast-if1 c = search needs
 returns : tie.Need-returns
 returns c s a n =
     let args = c .before .before .before .before .before .before .args in
-    sym (node-fails s _ _ _ a n (args .store .now) (args .i) (rw (c .before .two .ensures) at (c .if1 .taken)))
+    sym (node-fails s _ _ _ a n (args .store .now) (args .i) (omega arith))
 
 returns-2 : tie.Need-returns-2
 returns-2 c s a n =
     let args = c .before .before .before .before .before .before .before .args in
-    sym (attribute-fails s _ _ _ a n (args .store .now) (args .i) (rw (c .before .before .before .wide .ensures) at (c .if2 .taken)))
+    sym (attribute-fails s _ _ _ a n (args .store .now) (args .i) (omega arith))
 
 add-if3 : tie.Need-add-if3
 add-if3 c = search needs
@@ -46,7 +47,7 @@ shared-slice-read-if3 c = search needs
 returns-3 : tie.Need-returns-3
 returns-3 c s a n =
     let args = c .before .before .before .before .before .before .before .before .before .args in
-    sym (zero-fails s _ _ _ a n (args .store .now) (args .i) (c .if3 .taken))
+    sym (zero-fails s _ _ _ a n (args .store .now) (args .i) (omega arith))
 
 mul-is-word : tie.Need-mul-is-word
 mul-is-word c = search needs
@@ -69,10 +70,8 @@ is-word-requires c κs = search needs
 returns-4 : tie.Need-returns-4
 returns-4 c s a n =
     let args = c .before .before .before .before .before .before .before .before .before .before .before .before .before .args in
-    let attribute = c .before .before .before .before .before .before .before .before .before .wide .ensures in
-    let word = c .before .before .four .ensures in
-    let declared = rw attribute at (c .before .before .before .before .before .before .if2 .left) in
-    sym (parameter-fails s _ _ _ a n (args .store .now) (args .i) declared (rw (← attribute, ← word) (sym (c .before .is-word .ensures) ∙ not-true (c .before .is-word .result) (c .if4 .taken))))
+    let word-fails = sym (c .before .is-word .ensures) ∙ not-true (c .before .is-word .result) (c .if4 .taken) in
+    sym (parameter-fails s _ _ _ a n (args .store .now) (args .i) (omega arith) (rw (← c .before .before .before .before .before .before .before .before .before .wide .ensures, ← c .before .before .four .ensures) word-fails))
 
 mul-is-word-2 : tie.Need-mul-is-word-2
 mul-is-word-2 c = search needs
@@ -96,13 +95,10 @@ returns-5 : tie.Need-returns-5
 returns-5 c s a n =
     let args = c .before .before .before .before .before .before .before .before .before .before .before .before .before .before .before .before .args in
     let attribute = c .before .before .before .before .before .before .before .before .before .before .before .before .wide .ensures in
-    let word = c .before .before .before .before .before .four .ensures in
-    let declared = rw attribute at (c .before .before .before .before .before .before .before .before .before .if2 .left) in
-    let node = rw (c .before .before .before .before .before .before .before .before .before .before .before .two .ensures) at (c .before .before .before .before .before .before .before .before .before .before .if1 .left) in
-    let value = c .before .four2 .ensures in
+    let word-passes = sym (c .before .before .before .before .is-word .ensures) ∙ not-false (c .before .before .before .before .is-word .result) (c .before .before .before .if4 .left) in
     c .is-word2 .ensures
-    ∙ rw (attribute, value)
-    (sym (by-value s _ _ _ a n (args .store .now) (args .i) declared node (c .before .before .before .before .before .before .before .if3 .left) (rw (← attribute, ← word) (sym (c .before .before .before .before .is-word .ensures) ∙ not-false (c .before .before .before .before .is-word .result) (c .before .before .before .if4 .left)))))
+    ∙ rw (attribute, c .before .four2 .ensures)
+    (sym (by-value s _ _ _ a n (args .store .now) (args .i) (omega arith) (omega arith) (omega arith) (rw (← attribute, ← c .before .before .before .before .before .four .ensures) word-passes)))
 
 pub is-entry-spec : {M : Type 1} → statement M
 is-entry-spec =
