@@ -1,6 +1,8 @@
 //! The proved checks at the edges of their input, against the second evaluator.
 
-use oracle::Answer;
+mod common;
+
+use common::agreed;
 
 /// Sheet L of document 01.
 const SHEET_L: &str = "4103004102004102004e004e014e0156000000ffff000056000001bc02000056010000000000005601000100000000\
@@ -22,14 +24,7 @@ fn verdict(
     kept: u64,
     budget: u64,
 ) -> Option<(u32, u64)> {
-    let checked = boundary::check(sheet, question, store, kept, budget);
-    let mut lent = store.to_vec();
-    let Answer { number, place, .. } = oracle::ask(sheet, &mut lent, kept, question, budget);
-    let expected = (1..=13)
-        .contains(&number)
-        .then_some((number as u32, place as u64));
-    assert_eq!(checked, expected, "{} bytes of sheet", sheet.len());
-    checked
+    agreed(sheet, question, &mut store.to_vec(), kept, budget).0
 }
 
 fn of_sheet(sheet: &[u8]) -> Option<(u32, u64)> {
