@@ -38,6 +38,7 @@ use Rattle.engine.specs.declared.Registers.{Registers}
 use Rattle.machine.proofs.Bounds.{frames-fit}
 use Rattle.machine.specs.Machine.{Next, by-move, by-step}
 use Rattle.engine.specs.Represents.{machineIn, Represents, Matches}
+use Rattle.engine.proofs.Words.{frames-count}
 use Rattle.engine.proofs.Writing.{keyOf, ByKey, Written, cache-write}
 
 -- ---- Types
@@ -103,12 +104,6 @@ module _ (sheet question forms forms′ : List ℕ) (k : ℕ) (same : (i : ℕ) 
       }
 
 module _ (sheet question words forms : List ℕ) where
-  frames-length : (n k : ℕ) → length (framesIn sheet question words forms n k) ≡ n
-  unfolding framesIn
-  frames-length zero k = refl
-  frames-length (suc n) k =
-      either (λ (fs : List Frame). length fs ≡ suc n) (eqb (getD words n 0 % 8) 6) (λ _. ap suc (frames-length n (k - 1))) (λ _. ap suc (frames-length n k))
-
   -- the innermost of some frames
   innermost-frame : (n k : ℕ) → 0 < n → framesIn sheet question words forms n k
       ≡ Bool.cond (eqb (getD words (n - 1) 0 % 8) 6)
@@ -423,7 +418,7 @@ module _ {sheet index question : List ℕ} {attributes : ℕ} {mem : Memory} {m 
 
         words-fit : m .frames ≤ length (mem .words)
         unfolding machineOf
-        words-fit = omega (arith, frames-fit M (r .small), frames-length sheet question (mem .words) (mem .forms) (m .frames) (m .forms))
+        words-fit = omega (arith, frames-fit M (r .small), frames-count sheet question (mem .forms) (mem .words) (m .frames) (m .forms))
 
         abbrev forms′ : List ℕ
         forms′ = setFour (mem .forms) (4 * m .forms) (nodeOf held * 32 + a) (toWord (m .value)) (m .at) (m .end)

@@ -1,19 +1,20 @@
 -- A tag and a four-byte form in one word, and what stands there.
-use mathlib.Core.Path.{_≡_, ap}
+use mathlib.Core.Path.{_≡_}
 use Prim.Native.Nat.{ℕ, _+_, _-_, _*_, _/_, _%_, _^_, _≤_, _<_}
 use native.Mathlib.Omega.{arith}
-use lib.IntN.{ℤ, pos, negsuc}
+use lib.IntN.{ℤ}
 use lib.Signed.{mag}
 use mir.Syntax.{w32}
 use mir.Val.{ofZ, toZ}
 use mir.Facts.{toZ-ofZ}
-use borrow.Author.Tests.{lt-ltb, le-ltb, ne-eqb}
+use borrow.Author.Tests.{ne-eqb}
 use Rattle.specs.specs.Values.{functionOf, signed, unsigned}
 use Rattle.specs.specs.declared.Value.{Value}
 use Rattle.specs.specs.declared.Value.the-variants.{Holding as holding}
 use Rattle.specs.specs.declared.Holding.{Holding}
 use Rattle.specs.specs.declared.Holding.the-variants.{Subtract as subtractFrom}
 use Rattle.specs.specs.declared.Function.the-variants.{Subtract as subtract}
+use Rattle.specs.proofs.Words.{signed-unsigned}
 use Rattle.frames.specs.Words.{holdingOf, valueOf, valueIn}
 
 -- ---- A word's two parts
@@ -51,11 +52,6 @@ value-rest t w h =
     rw (ne-eqb t 0 (λ e. omega arith), ne-eqb t 1 (λ e. omega arith), ne-eqb t 2 (λ e. omega arith), ne-eqb t 3 (λ e. omega arith), ne-eqb t 4 (λ e. omega arith))
 
 -- ---- An Int and its four-byte form
-
-signed-unsigned : (z : ℤ) → mag z < 2 ^ 31 → signed (unsigned z) ≡ z
-unfolding signed unsigned
-signed-unsigned (pos n) h = rw (lt-ltb n 2147483648 h)
-signed-unsigned (negsuc n) h = rw (le-ltb (4294967295 - n) 2147483648 (omega arith)) (ap negsuc (omega arith))
 
 -- The four-byte form of an Int's bits is read as that Int.
 pub int-back : (z : ℤ) {r : ℕ} → mag z < 2 ^ 31 → r ≡ unsigned (toZ w32 (ofZ w32 z)) → signed r ≡ z

@@ -10,7 +10,7 @@ use native.Mathlib.Nat.{eq-or-lt-of-le, add-assoc}
 use native.Mathlib.Omega.{arith}
 use native.Mathlib.Numerals.{add-one}
 use lib.Dec.{leb, ltb, eqb, eqb·suc-zero}
-use lib.ListN.{length, take, drop, getD, length-append, length-drop, length-set, drop-of-length-le, List·getD-append}
+use lib.ListN.{length, take, drop, getD, length-append, length-drop, drop-of-length-le, List·getD-append}
 use lib.Seq.{drop-cons, drop-drop, getD-drop, getD-append-seam, length-take-le}
 use borrow.Author.Tests.{leb-true, leb-false, ltb-true, ltb-false, eqb-true, eqb-false, le-leb, lt-leb}
 use Rattle.specs.specs.Values.{ofBytes, isWord}
@@ -384,69 +384,6 @@ scan-checks bytes index size = go (checkSheet bytes) (sheet-agrees bytes index s
 
 pub scan-indexes : (bytes index : List ℕ) (s : Sheet) → length index ≡ indexSize → checkSheet bytes ≡ accepted s → Indexed bytes s (scanSheet bytes index .index)
 scan-indexes bytes index s size e = subst (λ c. Outcome bytes c (scanSheet bytes index)) e (sheet-agrees bytes index size) .1
-
--- ---- The index's length
-
-abbrev Keeps : ℕ → Scanned → Type 0
-Keeps n (stops number offset) = Unit {0}
-Keeps n ends = Unit {0}
-Keeps n (goes-on p index) = length index ≡ n
-
-demand-keeps : (n : ℕ) (b : Bool) (number : ℕ) (t : Scanned) → Keeps n t → Keeps n (demand b number t)
-unfolding demand
-demand-keeps n true number t h = h
-demand-keeps n false number t h = tt
-
-demand-rule-keeps : (n : ℕ) (bytes : List ℕ) (p : Progress) (a : ℕ) (w : Whole) (t : Scanned) → Keeps n t → Keeps n (demandRule bytes p a w t)
-unfolding demandRule
-demand-rule-keeps n bytes p a no-expression t h = tt
-demand-rule-keeps n bytes p a (expression e) t h = demand-keeps n _ 7 t h
-
-end-keeps : (n : ℕ) (b : Bool) → Keeps n (cond b ends (stops 2 1))
-end-keeps n true = tt
-end-keeps n false = tt
-
-command-keeps : (bytes : List ℕ) (p : Progress) (index : List ℕ) (c : Command) → Keeps (length index) (scanAt bytes p index c)
-unfolding scanAt scanAttribute scanNode scanFigure scanRule scanEnd
-command-keeps bytes p index attribute-command = demand-keeps _ _ _ _ (demand-keeps _ _ _ _ (demand-keeps _ _ _ _ refl))
-command-keeps bytes p index node-command = demand-keeps _ _ _ _ (demand-keeps _ _ _ _ (demand-keeps _ _ _ _ (clear-length 32 _ index)))
-command-keeps bytes p index figure-command = demand-keeps _ _ _ _ (demand-keeps _ _ _ _ (demand-keeps _ _ _ _ (length-set index _ _)))
-command-keeps bytes p index rule-command =
-    demand-keeps _ _ _ _ (demand-keeps _ _ _ _ (demand-keeps _ _ _ _ (demand-rule-keeps _ _ _ _ _ _ (length-set index _ _))))
-command-keeps bytes p index end-command = end-keeps (length index) (eqb (p .at + 1) (length bytes))
-command-keeps bytes p index no-command = tt
-
-next-keeps : (bytes : List ℕ) (p : Progress) (index : List ℕ) → Keeps (length index) (scanCommand bytes p index)
-unfolding scanCommand
-next-keeps bytes p index = go (ltb (p .at) (length bytes))
-  where
-    go : (b : Bool) → Keeps (length index) (cond b (scanAt bytes p index (commandOf (getD bytes (p .at) 0))) (stops 2 0))
-    go true = command-keeps bytes p index (commandOf (getD bytes (p .at) 0))
-    go false = tt
-
-pass-length : (bytes : List ℕ) (k : ℕ) (p : Progress) (index : List ℕ) → length (scanFrom k bytes p index .index) ≡ length index
-unfolding scanFrom scanned
-pass-length bytes zero p index = refl
-pass-length bytes (suc k) p index = go (pass-length bytes k) (scanCommand bytes p index) refl (next-keeps bytes p index)
-  where
-    finish : (o : Option ℕ) → length (scanned p index o .index) ≡ length index
-    finish none = refl
-    finish (some place) = refl
-
-    go : ((p′ : Progress) (index′ : List ℕ) → length (scanFrom k bytes p′ index′ .index) ≡ length index′)
-        → (t : Scanned) → scanCommand bytes p index ≡ t → Keeps (length index) t → length (scanFrom (suc k) bytes p index .index) ≡ length index
-    go ih (stops number offset) e h = rw (e, scanFrom)
-    go ih ends e h = rw (e, scanFrom) (finish (missingFrom bytes index (p .attributes) (p .nodes) 0))
-    go ih (goes-on p′ index′) e h = rw (e, scanFrom) (ih p′ index′ ∙ h)
-
-pub scan-length : (bytes index : List ℕ) → length (scanSheet bytes index .index) ≡ length index
-unfolding scanSheet
-scan-length bytes index = go (leb (length bytes) 65536)
-  where
-    go : (b : Bool)
-        → length (cond b (scanFrom (suc (length bytes)) bytes start (clearRow 512 32768 index)) record { check = Refused 1 0; index = index } .index) ≡ length index
-    go true = pass-length bytes (suc (length bytes)) start (clearRow 512 32768 index) ∙ clear-length 512 32768 index
-    go false = refl
 
 -- ---- What the code's check comes to
 

@@ -82,7 +82,7 @@ unfolding isWord ofWord toWord
 bool-in nodes true = record { is-word = refl; round-trip = refl }
 bool-in nodes false = record { is-word = refl; round-trip = refl }
 
-signed-unsigned : (z : ℤ) → mag z < 2147483648 → signed (unsigned z) ≡ z
+pub signed-unsigned : (z : ℤ) → mag z < 2147483648 → signed (unsigned z) ≡ z
 unfolding signed unsigned
 signed-unsigned (pos n) h = rw (lt-ltb n 2147483648 h)
 signed-unsigned (negsuc n) h = rw (le-ltb (4294967295 - n) 2147483648 (omega arith)) (ap negsuc (omega arith))
