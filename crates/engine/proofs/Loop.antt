@@ -35,7 +35,7 @@ use Rattle.engine.specs.Decode.{sheetIn, sheetOf, entriesOf, framesIn, m
 use Rattle.engine.specs.Steps.{Memory, Stepped, goes, waits, stepOf}
 use Rattle.engine.specs.Steps as Steps
 use Rattle.engine.specs.declared.Registers.{Registers}
-use Rattle.engine.specs.Represents.{machineIn, HoldsIn, Represents, Matches, WidthOf, Packs}
+use Rattle.engine.specs.Represents.{machineIn, HoldsIn, Represents, Matches, WidthOf, PacksIn}
 use Rattle.engine.specs.Loop.{Invariant, started, Final}
 use Rattle.engine.proofs.Whole.{step-whole}
 use Rattle.engine.proofs.Left.{store-moves, left-on}
@@ -204,7 +204,7 @@ module _ {sheet index question : List ℕ} {attributes budget : ℕ} {first : Li
         store-is = rw is (inv .left);
       }
 
-  module _ (limit skip packed : ℕ) (width : WidthOf (restOf sheet question (m .forms) (m .at) (m .end)) skip) (packs : Packs (m .value) packed) where
+  module _ (limit skip packed : ℕ) (width : WidthOf (restOf sheet question (m .forms) (m .at) (m .end)) skip) (packs : PacksIn mem m packed) where
     abbrev step : Stepped
     step = stepOf sheet index attributes question budget limit skip packed mem m
 
