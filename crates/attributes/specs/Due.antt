@@ -30,6 +30,13 @@ keptAfter Waits m = m .kept
 keptAfter Finishes m = m .kept
 keptAfter (Stops number) m = m .kept
 
+-- what is not gone on with has left the memory as it was
+abbrev pub Still : Step → Memory → Memory → Type 0
+Still (Goes m) mem mem′ = Unit {0}
+Still Waits mem mem′ = mem′ ≡ mem
+Still Finishes mem mem′ = mem′ ≡ mem
+Still (Stops number) mem mem′ = mem′ ≡ mem
+
 -- ---- What they rely on
 
 -- A store with its index, of a length that passes.

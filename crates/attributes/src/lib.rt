@@ -14,7 +14,7 @@ ghost use Rattle.stores.specs.Keys.{Linked, findKey};
 ghost use Rattle.frames.specs.Words.{valueIn};
 ghost use Rattle.engine.specs.Steps.{goes, cacheWrite, closeForm, openRule, openFigure, takeKept, attributeDue};
 ghost use Rattle.engine.specs.Ready.{memoryOf};
-ghost use Rattle.attributes.specs.Due.{steppedOf, keptAfter, WriteReady, CloseReady, RuleReady, AttributeReady};
+ghost use Rattle.attributes.specs.Due.{steppedOf, keptAfter, Still, WriteReady, CloseReady, RuleReady, AttributeReady};
 
 // What a move comes to: registers to go on with; a counted step is due at the limit; the value is the run's; or a stop's number.
 pub enum Step {
@@ -219,6 +219,8 @@ pub fn attribute_due(
         ≡ attributeDue (now (sheet .entry)) (now (index .entry)) attributes budget limit (memoryOf (now (store .entry)) (now (frames .entry)) (now (forms .entry))) m
         (nodeOf (valueIn (w / 256 % 68719476736))) (w / 8 % 32) ⌝ }
     ensures { λ r. ⌜ Linked (now (store .exit)) (keptAfter r m) (now (links .exit)) ⌝ }
+    ensures { λ r. ⌜ Still r (memoryOf (now (store .entry)) (now (frames .entry)) (now (forms .entry)))
+        (memoryOf (now (store .exit)) (now (frames .exit)) (now (forms .exit))) ⌝ }
 {
     let n = values::node_of(frames::unpack(w / 256 % 68719476736)) as usize;
     let a = (w / 8 % 32) as usize;

@@ -43,7 +43,7 @@ shared-slice-read-t11 : tie.Need-shared-slice-read-t11
 shared-slice-read-t11 c = search needs
 
 cast-t22 : tie.Need-cast-t22
-cast-t22 c = omega (arith, (c .shared-slice-known4) .given (4 * ((c .before .before .before .before .before .before .before .before .before .before .before .before .before .before .before .args) .m .forms - 1) + 2))
+cast-t22 c = omega (arith, c .shared-slice-known4 .given (4 * (c .before .before .before .before .before .before .before .before .before .before .before .before .before .before .before .args .m .forms - 1) + 2))
 
 add-t23 : tie.Need-add-t23
 add-t23 c = search needs
@@ -55,7 +55,7 @@ shared-slice-read-t19 : tie.Need-shared-slice-read-t19
 shared-slice-read-t19 c = search needs
 
 cast-t26 : tie.Need-cast-t26
-cast-t26 c = omega (arith, (c .shared-slice-known5) .given (4 * ((c .before .before .before .before .before .before .before .before .before .before .before .before .before .before .before .before .args) .m .forms - 1) + 3))
+cast-t26 c = omega (arith, c .shared-slice-known5 .given (4 * (c .before .before .before .before .before .before .before .before .before .before .before .before .before .before .before .before .args .m .forms - 1) + 3))
 
 sub-t27 : tie.Need-sub-t27
 sub-t27 c = search needs
@@ -70,7 +70,7 @@ same-length-2 : tie.Need-same-length-2
 same-length-2 c = search needs
 
 returns : tie.Need-returns
-returns c = (λ words. closes _ words _ ((c .before .before .before .before .before .before .before .before .before .before .before .before .before .before .before .before .before .before .args) .m) ((c .before .before .before .before .before .before .before .before .before .word-of) .ensures) ((c .before .before .before .before .before .before .before .before .cache-write) .ensures .0), (c .before .before .before .before .before .before .before .before .cache-write) .ensures .1)
+returns c = (λ words. closes _ words _ (c .before .before .before .before .before .before .before .before .before .before .before .before .before .before .before .before .before .before .args .m) (c .before .before .before .before .before .before .before .before .before .word-of .ensures) (c .before .before .before .before .before .before .before .before .cache-write .ensures .0), c .before .before .before .before .before .before .before .before .cache-write .ensures .1)
 
 pub close-form-spec : {M : Type 1} → statement M
 close-form-spec =

@@ -17,7 +17,7 @@ enum-told : tie.Need-enum-told
 enum-told c = search needs
 
 open-rule-requires : tie.Need-open-rule-requires
-open-rule-requires c κs = record { rule = record { pair = (c .before .before .before .before .before .before .before .before .before .before .before .pre) .pair; all = (c .before .before .before .before .before .before .before .before .before .before .before .pre) .all; ruled = (c .before .before .before .before .before .before .before .before .before .before .before .pre) .defined (no-place _ _ ((c .before .before .before .before .figure) .ensures) ((c .before .before .enum-told) .given .1)) }; form = (c .before .before .before .before .before .before .before .before .before .before .before .pre) .form }
+open-rule-requires c κs = record { rule = record { pair = c .before .before .before .before .before .before .before .before .before .before .before .pre .pair; all = c .before .before .before .before .before .before .before .before .before .before .before .pre .all; ruled = c .before .before .before .before .before .before .before .before .before .before .before .pre .defined (no-place _ _ (c .before .before .before .before .figure .ensures) (c .before .before .enum-told .given .1)) }; form = c .before .before .before .before .before .before .before .before .before .before .before .pre .form }
 
 same-length : tie.Need-same-length
 same-length c = search needs
@@ -26,7 +26,7 @@ same-length-2 : tie.Need-same-length-2
 same-length-2 c = search needs
 
 returns : tie.Need-returns
-returns c = (opens _ _ _ _ _ _ _ _ ((c .before .before .before .before .open-rule) .ensures _) (sym ((c .before .before .before .before .before .before .before .before .before .figure) .ensures) ∙ ap figureOf ((c .before .before .before .before .before .before .before .enum-told) .given .1)), rw (opening-keeps _ _ _ _ _ _ _ _ ((c .before .before .before .before .open-rule) .ensures ((c .before .before .before .before .before .before .before .before .before .before .before .before .before .before .before .before .args) .store .now))) ((c .before .before .before .before .before .before .before .before .before .before .before .before .before .before .before .before .pre) .writes .linked))
+returns c = (opens _ _ _ _ _ _ _ _ (c .before .before .before .before .open-rule .ensures _) (sym (c .before .before .before .before .before .before .before .before .before .figure .ensures) ∙ ap figureOf (c .before .before .before .before .before .before .before .enum-told .given .1)), rw (opening-keeps _ _ _ _ _ _ _ _ (c .before .before .before .before .open-rule .ensures (c .before .before .before .before .before .before .before .before .before .before .before .before .before .before .before .before .args .store .now))) (c .before .before .before .before .before .before .before .before .before .before .before .before .before .before .before .before .pre .writes .linked))
 
 cast-cache-write : tie.Need-cast-cache-write
 cast-cache-write c = search needs
@@ -50,7 +50,7 @@ same-length-4 : tie.Need-same-length-4
 same-length-4 c = search needs
 
 returns-2 : tie.Need-returns-2
-returns-2 c = (rw ((c .answered) .ensures, figure-is _ _ ((c .before .before .before .before .before .before .before .before .before .before .before .before .figure) .ensures) _ (c .before .before .before .before .before .before .before .before .before .before .v .given .1)) (answers _ _ _ _ _ _ ((c .before .before .before .before .before .before .before .before .before .before .before .before .before .before .before .before .before .before .before .args) .m) _ _ _ _ ((c .before .before .before .before .before .before .word-of) .ensures) ((c .before .before .before .before .before .cache-write) .ensures .0)), rw ((c .answered) .ensures) ((c .before .before .before .before .before .cache-write) .ensures .1))
+returns-2 c = (rw (c .answered .ensures, figure-is _ _ (c .before .before .before .before .before .before .before .before .before .before .before .before .figure .ensures) _ (c .before .before .before .before .before .before .before .before .before .before .v .given .1)) (answers _ _ _ _ _ _ (c .before .before .before .before .before .before .before .before .before .before .before .before .before .before .before .before .before .before .before .args .m) _ _ _ _ (c .before .before .before .before .before .before .word-of .ensures) (c .before .before .before .before .before .cache-write .ensures .0)), rw (c .answered .ensures) (c .before .before .before .before .before .cache-write .ensures .1))
 
 pub open-definition-spec : {M : Type 1} → statement M
 open-definition-spec =

@@ -41,7 +41,7 @@ same-length-4 : tie.Need-same-length-4
 same-length-4 c = search needs
 
 returns : tie.Need-returns
-returns c = (takes-definition _ _ _ _ ((c .before .before .before .before .before .before .before .before .before .before .before .before .before .before .before .before .before .before .before .before .before .before .before .before .before .args) .m) _ _ ((c .before .before .before .before .before .before .before .before .before .before .before .before .before .before .before .before .before .before .word-of) .ensures) (nothing-found _ _ ((c .before .before .before .before .before .before .before .before .before .before .before .before .before .before .before .find) .ensures) (due-key _ _ ((c .before .before .before .before .before .before .before .before .before .before .before .before .before .before .before .before .before .before .word-of) .ensures)) ((c .before .before .before .before .before .before .before .before .before .before .before .before .before .enum-told) .given .1)) ((c .before .before .before .before .before .before .before .before .open-definition) .ensures .0), (c .before .before .before .before .before .before .before .before .open-definition) .ensures .1)
+returns c = (takes-definition _ _ _ _ (c .before .before .before .before .before .before .before .before .before .before .before .before .before .before .before .before .before .before .before .before .before .before .before .before .before .args .m) _ _ (c .before .before .before .before .before .before .before .before .before .before .before .before .before .before .before .before .before .before .word-of .ensures) (nothing-found _ _ (c .before .before .before .before .before .before .before .before .before .before .before .before .before .before .before .find .ensures) (due-key _ _ (c .before .before .before .before .before .before .before .before .before .before .before .before .before .before .before .before .before .before .word-of .ensures)) (c .before .before .before .before .before .before .before .before .before .before .before .before .before .enum-told .given .1)) (c .before .before .before .before .before .before .before .before .open-definition .ensures .0), c .before .before .before .before .before .before .before .before .open-definition .ensures .1)
 
 mul-value-of : tie.Need-mul-value-of
 mul-value-of c = search needs
@@ -53,10 +53,10 @@ shared-slice-read-value-of : tie.Need-shared-slice-read-value-of
 shared-slice-read-value-of c = search needs
 
 value-word-requires : tie.Need-value-word-requires
-value-word-requires c κs = let (below, same) = found-below _ _ _ _ (found-at _ _ ((c .before .before .before .before .before .find) .ensures) refl _ ((c .before .before .before .j) .given .1)) in omega (arith, below, (c .before .before .before .before .before .before .before .before .before .before .before .before .before .before .before .pre) .writes .linked .stands)
+value-word-requires c κs = let (below, same) = found-below _ _ _ _ (found-at _ _ (c .before .before .before .before .before .find .ensures) refl _ (c .before .before .before .j .given .1)) in omega (arith, below, c .before .before .before .before .before .before .before .before .before .before .before .before .before .before .before .pre .writes .linked .stands)
 
 value-of-requires : tie.Need-value-of-requires
-value-of-requires c κs = rw ((c .value-word) .ensures) ((c .before .before .before .before .before .before .before .before .before .before .before .before .before .before .before .before .pre) .kept-word _ (found-at _ _ ((c .before .before .before .before .before .before .find) .ensures) (due-key _ _ ((c .before .before .before .before .before .before .before .before .before .word-of) .ensures)) _ ((c .before .before .before .before .j) .given .1)))
+value-of-requires c κs = rw (c .value-word .ensures) (c .before .before .before .before .before .before .before .before .before .before .before .before .before .before .before .before .pre .kept-word _ (found-at _ _ (c .before .before .before .before .before .before .find .ensures) (due-key _ _ (c .before .before .before .before .before .before .before .before .before .word-of .ensures)) _ (c .before .before .before .before .j .given .1)))
 
 answered-requires : tie.Need-answered-requires
 answered-requires c κs = search needs
@@ -68,7 +68,7 @@ same-length-6 : tie.Need-same-length-6
 same-length-6 c = search needs
 
 returns-2 : tie.Need-returns-2
-returns-2 c = (rw ((c .answered) .ensures) (takes-kept _ _ _ _ ((c .before .before .before .before .before .before .before .before .before .before .before .before .before .before .before .before .before .before .args) .m) _ _ (found-at _ _ ((c .before .before .before .before .before .before .before .before .find) .ensures) (due-key _ _ ((c .before .before .before .before .before .before .before .before .before .before .before .word-of) .ensures)) _ ((c .before .before .before .before .before .before .j) .given .1)) ((c .before .before .value-word) .ensures) ((c .before .value-of) .ensures)), rw ((c .answered) .ensures) ((c .before .before .before .before .before .before .before .before .before .before .before .before .before .before .before .before .before .before .pre) .writes .linked))
+returns-2 c = (rw (c .answered .ensures) (takes-kept _ _ _ _ (c .before .before .before .before .before .before .before .before .before .before .before .before .before .before .before .before .before .before .args .m) _ _ (found-at _ _ (c .before .before .before .before .before .before .before .before .find .ensures) (due-key _ _ (c .before .before .before .before .before .before .before .before .before .before .before .word-of .ensures)) _ (c .before .before .before .before .before .before .j .given .1)) (c .before .before .value-word .ensures) (c .before .value-of .ensures)), rw (c .answered .ensures) (c .before .before .before .before .before .before .before .before .before .before .before .before .before .before .before .before .before .before .pre .writes .linked))
 
 pub take-attribute-spec : {M : Type 1} → statement M
 take-attribute-spec =
