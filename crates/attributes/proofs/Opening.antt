@@ -17,7 +17,8 @@ use Rattle.sheets.proofs.Lookups.{RuleHere, rule-here}
 use Rattle.stores.specs.Keys.{Key, findKey, valueWord}
 use Rattle.engine.specs.declared.Registers.{Registers}
 use Rattle.engine.specs.Ready.{memoryOf}
-use Rattle.engine.specs.Steps.{Memory, Stepped, goes, waits, finishes, stops, answered, openRule, openFigure, takeKept, attributeDue}
+use Rattle.attributes.specs.Due.{keptIn}
+use Rattle.engine.specs.Steps.{Memory, Stepped, goes, waits, stops, answered, openRule, openFigure, takeKept, attributeDue}
 
 -- what the code found of a figure
 module _ (i : ℕ) (f : ℕ → Value) {r : FoundFigure} (found : figureOf r ≡ indexed i f) where
@@ -31,13 +32,6 @@ module _ (i : ℕ) (f : ℕ → Value) {r : FoundFigure} (found : figureOf r ≡
 
   pub figure-is : (v : Value) → r ≡ Of v → indexed i f ≡ some v
   figure-is v is = sym found ∙ ap figureOf is
-
--- the kept number that a move leaves
-abbrev keptIn : ℕ → Stepped → ℕ
-keptIn kept (goes m mem) = m .kept
-keptIn kept waits = kept
-keptIn kept finishes = kept
-keptIn kept (stops number) = kept
 
 module _ (sheet index : List ℕ) (attributes : ℕ) (mem : Memory) (m : Registers) (n a word : ℕ) where
   pub opens : {r : Registers} {mem′ : Memory} {o : Option Value} → goes r mem′ ≡ openRule sheet index attributes mem m n a word → o ≡ none

@@ -30,6 +30,13 @@ keptAfter Waits m = m .kept
 keptAfter Finishes m = m .kept
 keptAfter (Stops number) m = m .kept
 
+-- and of the move itself, where it was so many
+abbrev pub keptIn : ℕ → Stepped → ℕ
+keptIn kept (goes m mem) = m .kept
+keptIn kept waits = kept
+keptIn kept finishes = kept
+keptIn kept (stops number) = kept
+
 -- what is not gone on with has left the memory as it was
 abbrev pub Still : Step → Memory → Memory → Type 0
 Still (Goes m) mem mem′ = Unit {0}

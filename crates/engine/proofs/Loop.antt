@@ -242,8 +242,8 @@ module _ {sheet index question : List ℕ} {attributes budget : ℕ} {first : Li
       pub invariant-falls : measure budget (machineIn sheet question mem′ m′) < measure budget M
       invariant-falls = move-falls rules (r .good) (matches e .0)
 
-    pub invariant-waits : limit ≡ budget → step ≡ waits → ⊥
-    invariant-waits f e = let (reached, left) = matches e in omega arith
+    pub invariant-waits : step ≡ waits → (limit ≤ m .steps) × (m .steps < budget)
+    invariant-waits e = matches e
 
     pub invariant-finishes : step ≡ Steps.finishes → Final first lent whole (with-value (m .value)) mem m
     invariant-finishes e = ended (with-value (m .value)) (runs-on s capacity budget rules M (r .good) (matches e) runs)

@@ -1,0 +1,5 @@
+pub mod Limits
+pub mod Ready
+pub mod Giving
+pub mod Stepping
+pub mod Rounds

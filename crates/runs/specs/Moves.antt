@@ -15,8 +15,8 @@ use Rattle.engine.specs.Ready.{memoryOf}
 use Rattle.engine.specs.Loop.{Invariant, Final}
 use Rattle.attributes.specs.declared.Step.{Step}
 use Rattle.attributes.specs.Due.{steppedOf, keptAfter, Still}
-use Rattle.runs.specs.declared.Run.{Run}
-use Rattle.runs.specs.declared.Run.the-variants.{Pauses, Finishes, Stops}
+use Rattle.runs.specs.declared.RunEnd.{RunEnd}
+use Rattle.runs.specs.declared.RunEnd.the-variants.{Pauses, Finishes, Stops}
 
 -- ---- A move
 
@@ -60,7 +60,7 @@ pub record Running (sheet index question : List ℕ) (attributes budget : ℕ) (
   pub short : length question ≤ 256
 
 -- the kept number where a run leaves off
-unfoldable pub keptBy : Run → ℕ
+unfoldable pub keptBy : RunEnd → ℕ
 keptBy (Pauses m) = m .kept
 keptBy (Finishes m) = m .kept
 keptBy (Stops number m) = m .kept
@@ -68,7 +68,7 @@ keptBy (Stops number m) = m .kept
 -- A run that ends so, of a call that was lent these bytes with so many kept entries, leaves off: paused, with the counted steps at the limit or
 -- past it; with its value; or with the number of its reason.
 module _ (sheet index question : List ℕ) (attributes budget limit : ℕ) (lent : List ℕ) (kept : ℕ) (whole : Ended) (mem : Memory) where
-  abbrev pub RunsTo : Run → Type 0
+  abbrev pub RunsTo : RunEnd → Type 0
   RunsTo (Pauses m) = Invariant sheet index question attributes budget lent kept whole mem m × (limit ≤ m .steps) × (m .steps < budget)
   RunsTo (Finishes m) = Final lent kept whole (with-value (m .value)) mem m
   RunsTo (Stops number m) = (reason : Reason) × (reasonNumber reason ≡ number) × Final lent kept whole (by reason) mem m

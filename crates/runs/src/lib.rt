@@ -18,7 +18,7 @@ ghost use Rattle.attributes.specs.Due.{steppedOf, keptAfter, Still};
 ghost use Rattle.runs.specs.Moves.{MoveReady, GivesTo, StepsTo, Running, keptBy, RunsTo};
 
 // How a run leaves off: with a counted step due at the limit, with its value, or with a stop's number; and the registers then.
-pub enum Run {
+pub enum RunEnd {
     Pauses(Registers),
     Finishes(Registers),
     Stops(u32, Registers),
@@ -59,11 +59,11 @@ fn give_right(budget: usize, limit: usize, m: Registers, w: u64) -> Step
 }
 
 // A value is given to the innermost frame, whose word is `w`.
-fn give(
-    sheet: &[u8],
+fn give<'a>(
+    sheet: &'a [u8],
     index: &[u32],
     attributes: usize,
-    question: &[u8],
+    question: &'a [u8],
     store: &mut [u8],
     links: &mut [u32],
     frames: &mut [u64],
@@ -110,11 +110,11 @@ fn give(
 }
 
 // One move: a head is read, the value is the run's, or it is given to the innermost frame.
-pub fn step(
-    sheet: &[u8],
+pub fn step<'a>(
+    sheet: &'a [u8],
     index: &[u32],
     attributes: usize,
-    question: &[u8],
+    question: &'a [u8],
     store: &mut [u8],
     links: &mut [u32],
     frames: &mut [u64],
@@ -154,11 +154,11 @@ pub fn step(
 }
 
 // The run from the registers `first`. A run that pauses goes on from its registers, with another limit, as if it had not paused.
-pub fn run(
-    sheet: &[u8],
+pub fn run<'a>(
+    sheet: &'a [u8],
     index: &[u32],
     attributes: usize,
-    question: &[u8],
+    question: &'a [u8],
     store: &mut [u8],
     links: &mut [u32],
     frames: &mut [u64],
@@ -166,7 +166,7 @@ pub fn run(
     budget: usize,
     limit: usize,
     first: Registers,
-) -> Run
+) -> RunEnd
     requires { ⌜ Running (now sheet) (now index) (now question) attributes budget (now store) (now links) (now frames) (now forms) first ⌝ }
     ensures { λ r. ⌜ ((lent : List ℕ) (kept : ℕ) (whole : Ended)
         → Invariant (now (sheet .entry)) (now (index .entry)) (now (question .entry)) attributes budget lent kept whole
@@ -194,13 +194,13 @@ pub fn run(
                 m = next;
             }
             Step::Waits => {
-                return Run::Pauses(m);
+                return RunEnd::Pauses(m);
             }
             Step::Finishes => {
-                return Run::Finishes(m);
+                return RunEnd::Finishes(m);
             }
             Step::Stops(number) => {
-                return Run::Stops(number, m);
+                return RunEnd::Stops(number, m);
             }
         }
     }
