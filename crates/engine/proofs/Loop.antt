@@ -42,7 +42,7 @@ use Rattle.engine.proofs.Left.{store-moves, left-on}
 
 -- ---- The start
 
-question-short : (s : Sheet) (q : List ℕ) (e : Expr) → checkQuestion s q ≡ accepted e → length q ≤ 256
+pub question-short : (s : Sheet) (q : List ℕ) (e : Expr) → checkQuestion s q ≡ accepted e → length q ≤ 256
 unfolding checkQuestion checkType readWhole
 question-short s q e h = go (leb (length q) 256) _ refl h
   where
