@@ -6,6 +6,7 @@
 pub mod ask;
 pub mod caching;
 pub mod case;
+pub mod commands;
 pub mod compare;
 pub mod demand3;
 pub mod engine;

@@ -1,8 +1,7 @@
-//! The proved checks at the edges of their input, against the second evaluator.
+//! The proved calls at the edges of their input, against the second evaluator.
 
-mod common;
-
-use common::agreed;
+use compare::Ways;
+use oracle::{Ask, Case, Oracle};
 
 /// Sheet L of document 01.
 const SHEET_L: &str = "4103004102004102004e004e014e0156000000ffff000056000001bc02000056010000000000005601000100000000\
@@ -16,18 +15,33 @@ fn sheet_l() -> Vec<u8> {
         .collect()
 }
 
-/// What both say of a call, which must be the same.
+/// The stop from 1 to 13 that both say of a call, or none. All else of their answers, and the store, must be the same too.
 fn verdict(
     sheet: &[u8],
     question: &[u8],
     store: &[u8],
     kept: u64,
     budget: u64,
-) -> Option<(u32, u64)> {
-    agreed(sheet, question, &mut store.to_vec(), kept, budget).0
+) -> Option<(i64, i64)> {
+    let case = Case {
+        sheet: sheet.to_vec(),
+        store: store.to_vec(),
+        kept,
+        asks: vec![Ask {
+            budget,
+            question: question.to_vec(),
+        }],
+    };
+    if let Err(differs) = Ways::default().agree(&case) {
+        panic!("{differs}\n{}", case.answered(&mut Oracle::default()));
+    }
+    let answer = case.answered(&mut Oracle::default()).answers[0];
+    (1..=13)
+        .contains(&answer.number)
+        .then_some((answer.number, answer.place))
 }
 
-fn of_sheet(sheet: &[u8]) -> Option<(u32, u64)> {
+fn of_sheet(sheet: &[u8]) -> Option<(i64, i64)> {
     verdict(sheet, &[0x10], &[], 0, 0)
 }
 
