@@ -9,6 +9,7 @@ pub mod case;
 pub mod compare;
 pub mod demand3;
 pub mod engine;
+pub mod examples;
 pub mod expr;
 pub mod generate;
 pub mod plain;

@@ -2,6 +2,7 @@
 
 use oracle::case::{read_lists, Case};
 use oracle::compare::Counts;
+use oracle::examples::read_examples;
 use oracle::generate::{self, Rng};
 use oracle::{compare, Answer, Engine};
 use twin::{Scratch, Sheet, Store};
@@ -109,6 +110,14 @@ fn the_vectors_agree() {
         assert_eq!(listed.case.clone().answered(&mut Lent::default()), *listed);
     }
     agree(lists.into_iter().map(|listed| listed.case));
+}
+
+#[test]
+fn the_examples_of_the_stops_page_agree() {
+    let page = include_str!("../../../docs/STOPS.md");
+    let examples = read_examples(page).expect("the page's form");
+    let counts = agree(examples.into_iter().map(|example| example.case));
+    assert_eq!(counts.unmet(), Vec::<i64>::new());
 }
 
 #[test]
