@@ -1,8 +1,10 @@
 //! The engine's algorithm in safe Rust, for the benchmarks to measure the engine against: the sheet's check with its index
-//! in one pass, the store's check with its buckets, the question's check, and the frame machine, all on lent memory.
+//! in one pass, the store's check with its buckets, the question's check, and the frame machine. Like the engine it works
+//! in lent memory and on the stack alone, and so needs no allocator.
 //!
-//! Document 01 is the paper "Settings sheets evaluated by Saiga".
+//! "Document 01" is the paper "Settings sheets evaluated by Saiga".
 #![forbid(unsafe_code)]
+#![no_std]
 
 mod bytes;
 mod expressions;

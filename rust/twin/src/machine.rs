@@ -212,31 +212,30 @@ fn evaluate(
                         attribute,
                         parameter: value.word(),
                     };
-                    if let Some(word) = store.find(key) {
-                        value = sheet.result(attribute).value(word);
-                        height = top;
-                        continue;
-                    }
-                    match sheet.definition(node, attribute) {
-                        Definition::Figure(figure) => {
-                            store.append(key, figure.word());
-                            value = figure;
-                            height = top;
-                        }
-                        Definition::Rule(start) => {
-                            forms[open] = Form {
-                                node,
-                                attribute,
-                                parameter: value,
-                                back: at,
-                            };
-                            open += 1;
-                            frames[top] = Frame::Form;
-                            piece = sheet.bytes;
-                            at = start;
-                            break;
-                        }
-                    }
+                    let word = match store.find(key) {
+                        Some(kept) => kept,
+                        None => match sheet.definition(node, attribute) {
+                            Definition::Figure(figure) => {
+                                store.append(key, figure);
+                                figure
+                            }
+                            Definition::Rule(start) => {
+                                forms[open] = Form {
+                                    node,
+                                    attribute,
+                                    parameter: value,
+                                    back: at,
+                                };
+                                open += 1;
+                                frames[top] = Frame::Form;
+                                piece = sheet.bytes;
+                                at = start;
+                                break;
+                            }
+                        },
+                    };
+                    value = sheet.result(attribute).value(word);
+                    height = top;
                 }
                 Frame::Form => {
                     open -= 1;

@@ -3,7 +3,7 @@
 use crate::bytes::{four, two};
 use crate::expressions::{Scope, Type};
 use crate::stops::{Reason, Stop};
-use crate::values::{Base, Value};
+use crate::values::Base;
 
 const LONGEST_SHEET: usize = 65_536;
 const MOST_ATTRIBUTES: usize = 32;
@@ -28,7 +28,8 @@ pub struct Sheet<'a> {
 
 /// What σ hands on for a declared pair.
 pub enum Definition {
-    Figure(Value),
+    /// The figure's four-byte form.
+    Figure(u32),
     /// The offset of the rule's expression.
     Rule(usize),
 }
@@ -107,7 +108,7 @@ impl<'a> Sheet<'a> {
         let node = usize::from(node);
         let figure = self.index[node * MOST_ATTRIBUTES + usize::from(attribute)] as usize;
         if figure != 0 {
-            return Definition::Figure(self.result(attribute).value(four(self.bytes, figure + 3)));
+            return Definition::Figure(four(self.bytes, figure + 3));
         }
         let rule = self.index[self.rules_of(node) + usize::from(attribute)] as usize;
         Definition::Rule(rule + 4)
