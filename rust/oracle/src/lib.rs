@@ -10,6 +10,7 @@ pub mod commands;
 pub mod compare;
 pub mod demand3;
 pub mod engine;
+pub mod examples;
 pub mod expr;
 pub mod generate;
 pub mod plain;

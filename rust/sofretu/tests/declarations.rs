@@ -52,7 +52,10 @@ fn array(pointer: &str, element: &str, length: &str) -> String {
 }
 
 fn rattle() -> Calls {
-    let text = text("crates/sofretu/src/lib.rt");
+    // A lifetime is nothing that is passed.
+    let text = text("crates/sofretu/src/lib.rt")
+        .replace("<'a>", "")
+        .replace("&'a ", "&");
     between(&text, "pub extern \"C\" fn ", "{")
         .into_iter()
         .map(|signature| {
@@ -196,10 +199,5 @@ fn rust_and_c_declare_the_same_calls() {
 
 #[test]
 fn what_rattle_exports_is_declared_as_it_is() {
-    let exported = rattle();
-    assert!(!exported.is_empty());
-    let declared = rust();
-    for (name, signature) in exported {
-        assert_eq!(Some(&signature), declared.get(&name), "{name}");
-    }
+    assert_eq!(rattle(), rust());
 }
