@@ -50,7 +50,7 @@ module _ {sheet index : List ℕ} {attributes : ℕ} {question store links words
     -- what the run's contract says of this call
     module _ {store′ links′ : List ℕ} (words′ forms′ : List ℕ) (r : RunEnd)
         (ran : (lent : List ℕ) (kept : ℕ) (whole : Ended) → Invariant sheet index question attributes budget lent kept whole (memoryOf store words forms) first
-        → RunsTo sheet index question attributes budget budget lent kept whole (memoryOf store′ words′ forms′) r)
+        → RunsTo sheet index question attributes budget budget lent kept whole (first .steps) (memoryOf store′ words′ forms′) r)
         (linked : Linked store′ (keptBy r) links′) where
       -- the answer and the bytes of the store, and the store's index
       abbrev Brings : Answer → Type 0
@@ -76,4 +76,4 @@ module _ {sheet index : List ℕ} {attributes : ℕ} {question store links words
 
       -- No run pauses at its budget.
       pub paused : {m : Registers} {A : Type 0} → r ≡ End.Pauses m → A
-      paused end = let (_, reached, left) = rw end at (ran store kept whole begins-at) in absurd (omega arith)
+      paused end = let (_, reached, left, _) = rw end at (ran store kept whole begins-at) in absurd (omega arith)

@@ -2,4 +2,5 @@ pub mod Limits
 pub mod Ready
 pub mod Giving
 pub mod Stepping
+pub mod Counting
 pub mod Rounds

@@ -65,10 +65,11 @@ keptBy (Pauses m) = m .kept
 keptBy (Finishes m) = m .kept
 keptBy (Stops number m) = m .kept
 
--- A run that ends so, of a call that was lent these bytes with so many kept entries, leaves off: paused, with the counted steps at the limit or
--- past it; with its value; or with the number of its reason.
-module _ (sheet index question : List ℕ) (attributes budget limit : ℕ) (lent : List ℕ) (kept : ℕ) (whole : Ended) (mem : Memory) where
+-- A run that ends so, of a call that was lent these bytes with so many kept entries, leaves off: paused with a counted step due, at the limit
+-- unless it was past it at first; with its value; or with the number of its reason.
+module _ (sheet index question : List ℕ) (attributes budget limit : ℕ) (lent : List ℕ) (kept : ℕ) (whole : Ended) (first : ℕ) (mem : Memory) where
   abbrev pub RunsTo : RunEnd → Type 0
-  RunsTo (Pauses m) = Invariant sheet index question attributes budget lent kept whole mem m × (limit ≤ m .steps) × (m .steps < budget)
+  RunsTo (Pauses m) =
+      Invariant sheet index question attributes budget lent kept whole mem m × (limit ≤ m .steps) × (m .steps < budget) × (first ≤ limit → m .steps ≡ limit)
   RunsTo (Finishes m) = Final lent kept whole (with-value (m .value)) mem m
   RunsTo (Stops number m) = (reason : Reason) × (reasonNumber reason ≡ number) × Final lent kept whole (by reason) mem m

@@ -171,7 +171,7 @@ pub fn run<'a>(
     ensures { λ r. ⌜ ((lent : List ℕ) (kept : ℕ) (whole : Ended)
         → Invariant (now (sheet .entry)) (now (index .entry)) (now (question .entry)) attributes budget lent kept whole
         (memoryOf (now (store .entry)) (now (frames .entry)) (now (forms .entry))) first
-        → RunsTo (now (sheet .entry)) (now (index .entry)) (now (question .entry)) attributes budget limit lent kept whole
+        → RunsTo (now (sheet .entry)) (now (index .entry)) (now (question .entry)) attributes budget limit lent kept whole (first .steps)
         (memoryOf (now (store .exit)) (now (frames .exit)) (now (forms .exit))) r) ⌝ }
     ensures { λ r. ⌜ Linked (now (store .exit)) (keptBy r) (now (links .exit)) ⌝ }
 {

@@ -13,26 +13,26 @@ use Rattle.runs.proofs.run.Tie as tie
 
 abbrev Inv-loop : tie.InvT-loop
 Inv-loop sheet index attributes question store₀ links₀ frames₀ forms₀ budget limit m₀ store links frames forms m =
-    Round sheet index question attributes budget store₀ links₀ frames₀ forms₀ m₀ store links frames forms m
+    Round sheet index question attributes budget limit store₀ links₀ frames₀ forms₀ m₀ store links frames forms m
 
 abbrev μ-loop : tie.MeasureT-loop
 μ-loop sheet index attributes question store₀ links₀ frames₀ forms₀ budget limit m₀ store links frames forms m =
     measure budget (machineIn sheet question (memoryOf store frames forms) m)
 
 loop-holds : tie.Need-loop-holds Inv-loop μ-loop
-loop-holds c = first-round _ _ _ _ _ (c .before .before .before .before .before .before .before .pre)
+loop-holds c = first-round _ _ _ _ _ _ (c .before .before .before .before .before .before .before .pre)
 
 step-requires : tie.Need-step-requires Inv-loop μ-loop
-step-requires c κs = round-ready _ _ _ _ _ (c .before .before .before .before .loop .inv)
+step-requires c κs = round-ready _ _ _ _ _ _ (c .before .before .before .before .loop .inv)
 
 enum-known-next : tie.Need-enum-known-next Inv-loop μ-loop
 enum-known-next c = search needs
 
 loop-less : tie.Need-loop-less Inv-loop μ-loop
-loop-less c = round-less _ _ _ _ _ (c .before .before .before .before .before .before .before .before .before .before .before .before .before .before .before .before .loop .inv) _ (c .before .before .before .before .before .before .before .before .before .before .before .step .ensures) (c .before .next .given .1)
+loop-less c = round-less _ _ _ _ _ _ (c .before .before .before .before .before .before .before .before .before .before .before .before .before .before .before .before .loop .inv) (c .before .before .before .before .before .before .before .before .before .before .before .step .ensures) (c .before .next .given .1)
 
 loop-again : tie.Need-loop-again Inv-loop μ-loop
-loop-again c = round-again _ _ _ _ _ (c .before .before .before .before .before .before .before .before .before .before .before .before .before .before .before .before .loop .inv) _ (c .before .before .before .before .before .before .before .before .before .before .before .step .ensures) (c .before .next .given .1) (c .before .before .before .before .before .before .before .before .before .before .before .step .kept .1 .1 .1 .1 .0) (c .before .before .before .before .before .before .before .before .before .before .before .step .kept .1 .1 .1 .1 .1 .0) (c .before .before .before .before .before .before .before .before .before .before .before .step .kept .1 .1 .1 .1 .1 .1 .0) (c .before .before .before .before .before .before .before .before .before .before .before .step .kept .1 .1 .1 .1 .1 .1 .1 .0)
+loop-again c = round-again _ _ _ _ _ _ (c .before .before .before .before .before .before .before .before .before .before .before .before .before .before .before .before .loop .inv) (c .before .before .before .before .before .before .before .before .before .before .before .step .ensures) (c .before .next .given .1) (c .before .before .before .before .before .before .before .before .before .before .before .step .kept .1 .1 .1 .1 .0) (c .before .before .before .before .before .before .before .before .before .before .before .step .kept .1 .1 .1 .1 .1 .0) (c .before .before .before .before .before .before .before .before .before .before .before .step .kept .1 .1 .1 .1 .1 .1 .0) (c .before .before .before .before .before .before .before .before .before .before .before .step .kept .1 .1 .1 .1 .1 .1 .1 .0)
 
 enum-told : tie.Need-enum-told Inv-loop μ-loop
 enum-told c = search needs
@@ -51,7 +51,7 @@ same-length-4 c = c .before .before .before .before .before .before .before .bef
 
 returns : tie.Need-returns Inv-loop μ-loop
 unfolding keptAfter keptBy
-returns c = (λ lent kept whole i. round-pauses _ _ _ _ _ (c .before .before .before .before .before .before .before .before .before .before .before .before .before .before .before .loop .inv) _ (c .before .before .before .before .before .before .before .before .before .before .step .ensures) lent kept whole i (c .enum-told .given .1), round-linked _ _ _ _ _ (c .before .before .before .before .before .before .before .before .before .before .before .before .before .before .before .loop .inv) _ (c .before .before .before .before .before .before .before .before .before .before .step .ensures) (rw (c .enum-told .given .1)))
+returns c = (λ lent kept whole i. round-pauses _ _ _ _ _ _ (c .before .before .before .before .before .before .before .before .before .before .before .before .before .before .before .loop .inv) (c .before .before .before .before .before .before .before .before .before .before .step .ensures) lent kept whole i (c .enum-told .given .1), round-linked _ _ _ _ _ _ (c .before .before .before .before .before .before .before .before .before .before .before .before .before .before .before .loop .inv) (c .before .before .before .before .before .before .before .before .before .before .step .ensures) (rw (c .enum-told .given .1)))
 
 enum-told-2 : tie.Need-enum-told-2 Inv-loop μ-loop
 enum-told-2 c = search needs
@@ -70,7 +70,7 @@ same-length-8 c = c .before .before .before .before .before .before .before .bef
 
 returns-2 : tie.Need-returns-2 Inv-loop μ-loop
 unfolding keptAfter keptBy
-returns-2 c = (λ lent kept whole i. round-finishes _ _ _ _ _ (c .before .before .before .before .before .before .before .before .before .before .before .before .before .before .before .loop .inv) _ (c .before .before .before .before .before .before .before .before .before .before .step .ensures) lent kept whole i (c .enum-told2 .given .1), round-linked _ _ _ _ _ (c .before .before .before .before .before .before .before .before .before .before .before .before .before .before .before .loop .inv) _ (c .before .before .before .before .before .before .before .before .before .before .step .ensures) (rw (c .enum-told2 .given .1)))
+returns-2 c = (λ lent kept whole i. round-finishes _ _ _ _ _ _ (c .before .before .before .before .before .before .before .before .before .before .before .before .before .before .before .loop .inv) (c .before .before .before .before .before .before .before .before .before .before .step .ensures) lent kept whole i (c .enum-told2 .given .1), round-linked _ _ _ _ _ _ (c .before .before .before .before .before .before .before .before .before .before .before .before .before .before .before .loop .inv) (c .before .before .before .before .before .before .before .before .before .before .step .ensures) (rw (c .enum-told2 .given .1)))
 
 enum-known-number : tie.Need-enum-known-number Inv-loop μ-loop
 enum-known-number c = search needs
@@ -89,7 +89,7 @@ same-length-12 c = c .before .before .before .before .before .before .before .be
 
 returns-3 : tie.Need-returns-3 Inv-loop μ-loop
 unfolding keptAfter keptBy
-returns-3 c = (λ lent kept whole i. round-stops _ _ _ _ _ (c .before .before .before .before .before .before .before .before .before .before .before .before .before .before .before .before .loop .inv) _ (c .before .before .before .before .before .before .before .before .before .before .before .step .ensures) lent kept whole i (c .before .number .given .1), round-linked _ _ _ _ _ (c .before .before .before .before .before .before .before .before .before .before .before .before .before .before .before .before .loop .inv) _ (c .before .before .before .before .before .before .before .before .before .before .before .step .ensures) (rw (c .before .number .given .1)))
+returns-3 c = (λ lent kept whole i. round-stops _ _ _ _ _ _ (c .before .before .before .before .before .before .before .before .before .before .before .before .before .before .before .before .loop .inv) (c .before .before .before .before .before .before .before .before .before .before .before .step .ensures) lent kept whole i (c .before .number .given .1), round-linked _ _ _ _ _ _ (c .before .before .before .before .before .before .before .before .before .before .before .before .before .before .before .before .loop .inv) (c .before .before .before .before .before .before .before .before .before .before .before .step .ensures) (rw (c .before .number .given .1)))
 
 pub run-spec : {M : Type 1} → statement M
 run-spec =
