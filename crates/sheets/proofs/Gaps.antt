@@ -1,5 +1,5 @@
 -- The pass for missing pairs, node by node and attribute by attribute: what is left of it from here on is all of it.
-use mathlib.Core.Bool.{true, false, not, _||_}
+use mathlib.Core.Bool.{Bool, true, false, not, _||_}
 use mathlib.Core.List.{List}
 use mathlib.Core.Option.{Option, none, some}
 use mathlib.Core.Path.{_≡_, refl, sym, _∙_}
@@ -11,19 +11,24 @@ use lib.ListN.{getD}
 use borrow.Author.Tests.{ne-eqb, eq-eqb}
 use Rattle.sheets.specs.declared.Progress.{Progress}
 use Rattle.sheets.specs.declared.SheetCheck.the-variants.{Refused, Accepted}
-use Rattle.sheets.specs.Scan.{isIndexed, missingAt, missingFrom, scanned, scanOf}
+use Rattle.sheets.specs.Scan.{pairIndexed, isIndexed, missingAt, missingFrom, scanned, scanOf}
+
+-- ---- A pair
+
+module _ (index : List ℕ) (n k a : ℕ) where
+  pub figure-defines : (getD index (n * 32 + a) 0 ≡ 0 → ⊥) → true ≡ pairIndexed index n k a
+  unfolding pairIndexed
+  figure-defines h = rw (ne-eqb _ _ h)
+
+  pub rule-defines : getD index (n * 32 + a) 0 ≡ 0 → not (eqb (getD index (32768 + k * 32 + a) 0) 0) ≡ pairIndexed index n k a
+  unfolding pairIndexed
+  rule-defines e = rw (eq-eqb _ _ e)
 
 module _ (bytes index : List ℕ) (attributes : ℕ) where
-  -- ---- A pair
-
-  pub figure-defines : (n a : ℕ) → (getD index (n * 32 + a) 0 ≡ 0 → ⊥) → true ≡ isIndexed bytes index attributes n a
+  -- by its kind
+  pub pair-is : (n a k : ℕ) {b : Bool} → k ≡ getD bytes (3 * attributes + 2 * n + 1) 0 → b ≡ pairIndexed index n k a → isIndexed bytes index attributes n a ≡ b
   unfolding isIndexed
-  figure-defines n a h = rw (ne-eqb _ _ h)
-
-  pub rule-defines : (n a k : ℕ) → k ≡ getD bytes (3 * attributes + 2 * n + 1) 0 → getD index (n * 32 + a) 0 ≡ 0
-      → not (eqb (getD index (32768 + k * 32 + a) 0) 0) ≡ isIndexed bytes index attributes n a
-  unfolding isIndexed
-  rule-defines n a k kind e = rw (kind, eq-eqb _ _ e)
+  pair-is n a k kind e = rw (← kind) (sym e)
 
   -- ---- A node
 

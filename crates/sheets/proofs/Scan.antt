@@ -21,7 +21,7 @@ use Rattle.specs.proofs.Inference.{cond-passes}
 use Rattle.sheets.specs.declared.Progress.{Progress}
 use Rattle.sheets.specs.declared.SheetCheck.{SheetCheck}
 use Rattle.sheets.specs.declared.SheetCheck.the-variants.{Refused, Accepted}
-use Rattle.sheets.specs.Scan.{figurePlace, rulePlace, indexSize, figureAt, pieceAt, indexed, Scanned, stops, ends, goes-on, demand, scanAttribute, clearRow, scanNode, scanFigure, demandRule, scanRule, scanEnd, scanAt, scanCommand, isIndexed, missingAt, missingFrom, Scan, scanned, scanFrom, start, scanSheet, checkOf, Indexed, scanOf, Checks}
+use Rattle.sheets.specs.Scan.{figurePlace, rulePlace, indexSize, figureAt, pieceAt, indexed, Scanned, stops, ends, goes-on, demand, scanAttribute, clearRow, scanNode, scanFigure, demandRule, scanRule, scanEnd, scanAt, scanCommand, pairIndexed, isIndexed, missingAt, missingFrom, Scan, scanned, scanFrom, start, scanSheet, checkOf, Indexed, scanOf, Checks}
 use Rattle.specs.specs.Layout.{attributesIn, kindsIn}
 use Rattle.sheets.proofs.Indexed.{attributes-snoc, kinds-snoc, clear-length, clear-other, clear-same, attribute-by-index, definition-by-index, figure-indexed, rule-indexed}
 
@@ -34,7 +34,7 @@ is-indexed (suc at) f = sym (eqb·suc-zero at)
 
 module _ (bytes : List ℕ) (s : Sheet) (index : List ℕ) (h : Indexed bytes s index) where
   defined-is : (n a : ℕ) → n < nodeCount s → a < attributeCount s → isDefined (definition s n a) ≡ isIndexed bytes index (attributeCount s) n a
-  unfolding isIndexed isDefined figured ruled indexed
+  unfolding pairIndexed isIndexed isDefined figured ruled indexed
   defined-is n a p q =
       rw (definition-by-index bytes s index h n a p q)
       (go (getD index (figurePlace n a) 0) (getD index (rulePlace (getD bytes (3 * attributeCount s + 2 * n + 1) 0) a) 0))

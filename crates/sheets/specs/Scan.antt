@@ -125,10 +125,12 @@ scanCommand bytes p index =
 
 -- ---- The pass for missing pairs
 
+-- whether the index has a figure for a node, or a rule for its kind k
+unfoldable pub pairIndexed : List ℕ → ℕ → ℕ → ℕ → Bool
+pairIndexed index n k a = not (eqb (getD index (figurePlace n a) 0) 0) || not (eqb (getD index (rulePlace k a) 0) 0)
+
 unfoldable pub isIndexed : List ℕ → List ℕ → ℕ → ℕ → ℕ → Bool
-isIndexed bytes index attributes n a =
-    not (eqb (getD index (figurePlace n a) 0) 0)
-    || not (eqb (getD index (rulePlace (getD bytes (3 * attributes + 2 * n + 1) 0) a) 0) 0)
+isIndexed bytes index attributes n a = pairIndexed index n (getD bytes (3 * attributes + 2 * n + 1) 0) a
 
 unfoldable pub missingAt : List ℕ → List ℕ → ℕ → ℕ → ℕ → ℕ → Option ℕ
 missingAt bytes index attributes zero n a = none

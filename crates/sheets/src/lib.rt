@@ -5,7 +5,7 @@ ghost use mathlib.Core.Path.{_≡_};
 ghost use mathlib.Core.List.{List};
 ghost use Prim.Native.Nat.{ℕ, suc, _+_, _-_, _*_, _≤_, _<_};
 ghost use lib.ListN.{length, getD};
-ghost use Rattle.sheets.specs.Scan.{figurePlace, figureAt, pieceAt, indexed, indexSize, clearRow, scanAttribute, scanNode, scanFigure, scanRule, scanEnd, scanCommand, isIndexed, missingAt, missingFrom, scanned, scanFrom, start, Reading, readOf, ReadAs, Declared, gapOf, scanOf, Checks, IndexedPair, IndexedRule, ruleNumber, figureOf};
+ghost use Rattle.sheets.specs.Scan.{figurePlace, figureAt, pieceAt, indexed, indexSize, clearRow, scanAttribute, scanNode, scanFigure, scanRule, scanEnd, scanCommand, pairIndexed, missingAt, missingFrom, scanned, scanFrom, start, Reading, readOf, ReadAs, Declared, gapOf, scanOf, Checks, IndexedPair, IndexedRule, ruleNumber, figureOf};
 
 // What is known of a sheet part way through its check: the offset reached, the part of the sheet reached (0 attributes, 1 nodes,
 // 2 figures, 3 rules), and how many attributes and nodes are declared.
@@ -232,14 +232,14 @@ fn read_command(sheet: &[u8], index: &mut [u32], p: Progress) -> Read
     }
 }
 
-fn is_defined(sheet: &[u8], index: &[u32], attributes: usize, n: usize, a: usize) -> bool
-    requires { ⌜ Declared (now sheet) (now index) attributes n × (a < attributes) ⌝ }
-    ensures { λ r. ⌜ r ≡ isIndexed (now (sheet .entry)) (now (index .entry)) attributes n a ⌝ }
+// Whether a node of kind k has a figure or a rule for an attribute.
+fn is_defined(index: &[u32], n: usize, k: usize, a: usize) -> bool
+    requires { ⌜ (length (now index) ≡ indexSize) × (n < 1024) × (k ≤ 15) × (a < 32) ⌝ }
+    ensures { λ r. ⌜ r ≡ pairIndexed (now (index .entry)) n k a ⌝ }
 {
     if index[n * 32 + a] != 0 {
         return true;
     }
-    let k = wide(sheet[3 * attributes + 2 * n + 1]);
     index[32768 + k * 32 + a] != 0
 }
 
@@ -247,9 +247,10 @@ fn gap_of_node(sheet: &[u8], index: &[u32], attributes: usize, n: usize) -> Gap
     requires { ⌜ Declared (now sheet) (now index) attributes n ⌝ }
     ensures { λ r. ⌜ gapOf r ≡ missingAt (now (sheet .entry)) (now (index .entry)) attributes attributes n 0 ⌝ }
 {
+    let k = wide(sheet[3 * attributes + 2 * n + 1]);
     let mut a = 0;
     while a < attributes {
-        if !is_defined(sheet, index, attributes, n, a) {
+        if !is_defined(index, n, k, a) {
             return Gap::At(n * 32 + a);
         }
         a += 1;
