@@ -18,6 +18,7 @@ use Rattle.specs.specs.Types.{attributeAt}
 use Rattle.specs.specs.Sheet.{Sheet, nodeCount, accepted}
 use Rattle.specs.specs.Caching.{Entry}
 use Rattle.specs.specs.Store.{entryBytes, entryOf, isEntry, readEntries, checkStore, leftStore}
+use Rattle.specs.proofs.Preservation.{either}
 use Rattle.specs.proofs.Words.{word-trip}
 use Rattle.specs.proofs.Entries.{first-bytes, store-in}
 use Rattle.stores.specs.Keys.{Key, findKey, entriesIn, recordOf, putAt}
@@ -25,7 +26,6 @@ use Rattle.stores.proofs.Entries.{entries-are, entries-last}
 use Rattle.stores.proofs.Written.{left-more}
 use Rattle.engine.specs.Steps.{Memory, Stepped, goes, waits, finishes, stops, readHead, appended, unlessFound, cacheWrite, closeForm, takeIf, within, openRule, openFigure, takeKept, attributeDue, give, readNext, stepOf}
 use Rattle.engine.specs.declared.Registers.{Registers}
-use Rattle.engine.proofs.Words.{by-test}
 
 -- ---- Moves
 
@@ -40,7 +40,7 @@ unchanged = same refl refl
 write-changes : (store : List ℕ) (kept : ℕ) (q : Key) (w : ℕ) → Changed store kept (cacheWrite store kept q w .0) (cacheWrite store kept q w .1)
 unfolding cacheWrite unlessFound
 write-changes store kept q w =
-    by-test P (leb (length store / 12) kept) (λ _. unchanged) (λ room. go (leb-false _ _ room) (findKey store kept q))
+    either P (leb (length store / 12) kept) (λ _. unchanged) (λ room. go (leb-false _ _ room) (findKey store kept q))
   where
     P : List ℕ × ℕ → Type 0
     P r = Changed store kept (r .0) (r .1)
@@ -77,7 +77,7 @@ module _ (sheet index : List ℕ) (attributes : ℕ) (mem : Memory) (m : Registe
 
   within-moves : (budget limit : ℕ) (next : Stepped) → P next → P (within budget limit m next)
   unfolding within
-  within-moves budget limit next h = by-test P (leb budget (m .steps)) {x = stops 15} (λ _. tt) λ _. by-test P (leb limit (m .steps)) {x = waits} (λ _. tt) λ _. h
+  within-moves budget limit next h = either P (leb budget (m .steps)) {x = stops 15} (λ _. tt) λ _. either P (leb limit (m .steps)) {x = waits} (λ _. tt) λ _. h
 
   if-moves : (skip : ℕ) (b : Bool) → P (takeIf skip mem m b)
   unfolding takeIf
@@ -97,27 +97,27 @@ module _ (sheet index : List ℕ) (attributes : ℕ) (mem : Memory) (m : Registe
   attribute-moves : (budget limit n a : ℕ) → P (attributeDue sheet index attributes budget limit mem m n a)
   unfolding attributeDue
   attribute-moves budget limit n a =
-      by-test P (eqb n null) {x = stops 14} (λ _. tt) λ _.
-      by-test P (leb budget (m .steps)) {x = stops 15} (λ _. tt) λ _.
-      by-test P (leb 64 (m .forms)) {x = stops 16} (λ _. tt) λ _.
-      by-test P (leb limit (m .steps)) {x = waits} (λ _. tt) λ _. kept-moves n a _
+      either P (eqb n null) {x = stops 14} (λ _. tt) λ _.
+      either P (leb budget (m .steps)) {x = stops 15} (λ _. tt) λ _.
+      either P (leb 64 (m .forms)) {x = stops 16} (λ _. tt) λ _.
+      either P (leb limit (m .steps)) {x = waits} (λ _. tt) λ _. kept-moves n a _
 
   give-moves : (budget limit skip packed w : ℕ) → P (give sheet index attributes budget limit skip packed mem m w)
   unfolding give closeForm
   give-moves budget limit skip packed w =
-      by-test P (eqb (w % 8) 0) (λ _. within-moves budget limit _ (if-moves skip (truth (m .value)))) λ _.
-      by-test P (eqb (w % 8) 1) (λ _. unchanged) λ _.
-      by-test P (eqb (w % 8) 2) (λ _. unchanged) λ _.
-      by-test P (eqb (w % 8) 3) (λ _. within-moves budget limit _ unchanged) λ _.
-      by-test P (eqb (w % 8) 4) (λ _. unchanged) λ _.
-      by-test P (eqb (w % 8) 6) (λ _. write-changes (mem .store) (m .kept) _ _) λ _.
+      either P (eqb (w % 8) 0) (λ _. within-moves budget limit _ (if-moves skip (truth (m .value)))) λ _.
+      either P (eqb (w % 8) 1) (λ _. unchanged) λ _.
+      either P (eqb (w % 8) 2) (λ _. unchanged) λ _.
+      either P (eqb (w % 8) 3) (λ _. within-moves budget limit _ unchanged) λ _.
+      either P (eqb (w % 8) 4) (λ _. unchanged) λ _.
+      either P (eqb (w % 8) 6) (λ _. write-changes (mem .store) (m .kept) _ _) λ _.
       attribute-moves budget limit _ _
 
   store-moves-to : (question : List ℕ) (budget limit skip packed : ℕ) → P (stepOf sheet index attributes question budget limit skip packed mem m)
   unfolding stepOf
   store-moves-to question budget limit skip packed =
-      by-test P (m .returning)
-      (λ _. by-test P (eqb (m .frames) 0) {x = finishes} (λ _. tt) (λ _. give-moves budget limit skip packed _))
+      either P (m .returning)
+      (λ _. either P (eqb (m .frames) 0) {x = finishes} (λ _. tt) (λ _. give-moves budget limit skip packed _))
       (λ _. next-moves _)
 
   pub store-moves : (question : List ℕ) (budget limit skip packed : ℕ) {m′ : Registers} {mem′ : Memory}

@@ -13,6 +13,7 @@ use Rattle.specs.specs.Expressions.{Scope, Head, base-literal, function-literal
 use Rattle.specs.specs.Sheet.{Sheet, nodeCount, questionScope}
 use Rattle.specs.specs.Caching.{Running}
 use Rattle.specs.proofs.Sound.{OccurrenceIn, TermIn}
+use Rattle.specs.proofs.Words.{word-more}
 use Rattle.sheets.proofs.Indexed.{attribute-by-index}
 use Rattle.pieces.specs.Pieces.{restOf, Starts, headWidth}
 use Rattle.machine.specs.Machine.{Frame, on-if, on-left, on-skip, on-right, on-node, on-parameter, on-form, evaluating, returning, openForms, innermost, scopeIn, termAt, restAt, plug, termOf, stateOf}
@@ -27,22 +28,6 @@ use Rattle.engine.specs.declared.Registers.{Registers}
 use Rattle.engine.proofs.Words.{WordOf, if-kind, skip-kind, top-frame, frames-count, innermost-form, rest-length}
 use Rattle.engine.proofs.Steps.{Fits, head-fits, inside-form}
 use Rattle.engine.proofs.Attributes.{plug-in, form-in}
-
--- a word of a type on a sheet of so many nodes is one on a larger
-pub word-more : {nodes more : ℕ} (B : Base) (w : ℕ) → nodes ≤ more → isWord nodes B w ≡ true → isWord more B w ≡ true
-unfolding isWord
-word-more unitT w n h = h
-word-more boolT w n h = h
-word-more intT w n h = h
-word-more {nodes} {more} nodeT w n h = go (ltb w nodes) refl h
-  where
-    or-true : (b : Bool) {c : Bool} → c ≡ true → (b || c) ≡ true
-    or-true true h = refl
-    or-true false h = h
-
-    go : (b : Bool) → ltb w nodes ≡ b → (b || eqb w null) ≡ true → (ltb w more || eqb w null) ≡ true
-    go true e h = rw (lt-ltb w more (omega (arith, ltb-true w nodes e)))
-    go false e h = or-true (ltb w more) h
 
 -- the occurrence whose definition is running, of what is of a type
 innermost-in : {nodes : ℕ} {sig : List Attribute} (s : Sheet) (fs : List Frame) (t : Running) (l : List ℕ) {T : Ty} → 0 < length (openForms fs)

@@ -18,6 +18,7 @@ use Rattle.specs.specs.Terms.{Occurrence}
 use Rattle.specs.specs.Caching.{Counted, CondTrue, CondFalse, AppApp, spent}
 use Rattle.specs.specs.Store.{checkStore}
 use Rattle.specs.specs.Ask.{reasonNumber}
+use Rattle.specs.proofs.Preservation.{either}
 use Rattle.specs.proofs.Reading.{read-width}
 use Rattle.pieces.specs.Pieces.{restOf}
 use Rattle.frames.specs.Words.{valueIn}
@@ -31,7 +32,7 @@ use Rattle.machine.proofs.Bounds.{frames-fit, room-to-push}
 use Rattle.machine.specs.Machine.{Next, by-move, by-step}
 use Rattle.machine.proofs.Heads.{none-inside}
 use Rattle.engine.specs.Represents.{machineIn, HoldsIn, Represents, Matches, WidthOf, Packs, PacksIn}
-use Rattle.engine.proofs.Words.{by-test, WordOf, if-kind, left-kind, skip-kind, right-kind, node-kind, right-word, node-word, parameter-word, pushed-frame, top-frame, turned-frame, frames-count, innermost-form, rest-on, rest-length, rest-inside, rest-behind}
+use Rattle.engine.proofs.Words.{WordOf, if-kind, left-kind, skip-kind, right-kind, node-kind, right-word, node-word, parameter-word, pushed-frame, top-frame, turned-frame, frames-count, innermost-form, rest-on, rest-length, rest-inside, rest-behind}
 
 -- ---- What reading has tested behind a head
 
@@ -243,8 +244,8 @@ module _ (sheet question : List ℕ) (budget limit : ℕ) (mem : Memory) (m : Re
           → Matched (Steps.within budget limit m k)
       unfolding Steps.within within machineOf reasonNumber
       counts n k e go =
-          by-test Matched (leb budget (m .steps)) (λ t. (spent, e ∙ rw (le-ltb _ _ (leb-true _ _ t)), refl)) λ t.
-          by-test Matched (leb limit (m .steps)) (λ u. (leb-true _ _ u, leb-false _ _ t)) λ u.
+          either Matched (leb budget (m .steps)) (λ t. (spent, e ∙ rw (le-ltb _ _ (leb-true _ _ t)), refl)) λ t.
+          either Matched (leb limit (m .steps)) (λ u. (leb-true _ _ u, leb-false _ _ t)) λ u.
           go (e ∙ rw (lt-ltb _ _ (leb-false _ _ t)))
 
       module _ (some : 0 < m .frames) where
@@ -286,12 +287,12 @@ module _ (sheet question : List ℕ) (budget limit : ℕ) (mem : Memory) (m : Re
               → Matched (Steps.give sheet index attributes budget limit skip packed mem m word)
           unfolding Steps.give give modeOf openForms machineOf
           give-matches packed packs attribute close =
-              by-test Matched (eqb (word % 8) 0) (λ t. if-matches (top (if-kind word (eqb-true _ _ t))) (truth (m .value)) refl) λ no-if.
-              by-test Matched (eqb (word % 8) 1) (λ t. left (packs gives some .0 (eqb-true _ _ t)) (top (left-kind word (eqb-true _ _ t)))) λ no-left.
-              by-test Matched (eqb (word % 8) 2) (λ t. skips (top (skip-kind word (eqb-true _ _ t)))) λ no-skip.
-              by-test Matched (eqb (word % 8) 3) (λ t. right (top (right-kind word (eqb-true _ _ t)))) λ no-right.
-              by-test Matched (eqb (word % 8) 4) (λ t. node-given (packs gives some .1 (eqb-true _ _ t)) (top (node-kind word (eqb-true _ _ t)))) λ no-node.
-              by-test Matched (eqb (word % 8) 6) (λ t. close gives some (eqb-true _ _ t)) λ no-form.
+              either Matched (eqb (word % 8) 0) (λ t. if-matches (top (if-kind word (eqb-true _ _ t))) (truth (m .value)) refl) λ no-if.
+              either Matched (eqb (word % 8) 1) (λ t. left (packs gives some .0 (eqb-true _ _ t)) (top (left-kind word (eqb-true _ _ t)))) λ no-left.
+              either Matched (eqb (word % 8) 2) (λ t. skips (top (skip-kind word (eqb-true _ _ t)))) λ no-skip.
+              either Matched (eqb (word % 8) 3) (λ t. right (top (right-kind word (eqb-true _ _ t)))) λ no-right.
+              either Matched (eqb (word % 8) 4) (λ t. node-given (packs gives some .1 (eqb-true _ _ t)) (top (node-kind word (eqb-true _ _ t)))) λ no-node.
+              either Matched (eqb (word % 8) 6) (λ t. close gives some (eqb-true _ _ t)) λ no-form.
               attribute gives some (late no-if no-left no-skip no-right no-node) (eqb-false _ _ no-form)
             where
               late : eqb (word % 8) 0 ≡ false → eqb (word % 8) 1 ≡ false → eqb (word % 8) 2 ≡ false → eqb (word % 8) 3 ≡ false → eqb (word % 8) 4 ≡ false
@@ -330,9 +331,9 @@ pub step-matches : (sheet index question : List ℕ) (attributes budget limit sk
     (stepOf sheet index attributes question budget limit skip packed mem m)
 unfolding stepOf give framesIn
 step-matches sheet index question attributes budget limit skip packed mem m r width packs attribute close =
-    by-test (Matched sheet question budget limit mem m) (m .returning)
+    either (Matched sheet question budget limit mem m) (m .returning)
     (λ gives.
-    by-test (Matched sheet question budget limit mem m) (eqb (m .frames) 0)
+    either (Matched sheet question budget limit mem m) (eqb (m .frames) 0)
     (λ t. is-given sheet question budget limit mem m index attributes r gives {fs = []} (rw (eqb-true (m .frames) 0 t)))
     (λ t. give-matches sheet question budget limit mem m index attributes r gives (positive t) skip width packed packs attribute close))
     (λ evaluates. read-matches sheet question budget limit mem m index attributes r evaluates)

@@ -11,16 +11,12 @@ use lib.ListN.{length, take, drop, getD, set, length-take, length-drop}
 use lib.Seq.{take-nil, drop-drop, getD-drop, getD-set-same, getD-set-other}
 use borrow.Author.Tests.{ne-eqb}
 use Rattle.specs.specs.declared.Value.{Value}
+use Rattle.specs.proofs.Preservation.{either}
 use Rattle.pieces.specs.Pieces.{pieceIn, restOf}
 use Rattle.frames.specs.Words.{valueIn}
 use Rattle.machine.specs.Machine.{Frame, on-if, on-left, on-skip, on-right, on-node, on-parameter, on-form, openForms, innermost}
 use Rattle.engine.specs.Decode.{plainFrame, formOccurrence, formRest, framesIn}
 use Rattle.engine.specs.Represents.{Packs}
-
--- a test may be used in what follows it
-pub by-test : {A : Type 0} (P : A → Type 0) (b : Bool) {x y : A} → (b ≡ true → P x) → (b ≡ false → P y) → P (cond b x y)
-by-test P true f g = f refl
-by-test P false f g = g refl
 
 -- ---- Words of plain frames
 
@@ -101,7 +97,7 @@ plain-open w =
     none h = record { open-forms = h }
 
     or-else : (j : ℕ) {f g : Frame} → OpensNone f → OpensNone g → OpensNone (cond (eqb (w % 8) j) f g)
-    or-else j p q = by-test OpensNone (eqb (w % 8) j) (λ e. p) (λ e. q)
+    or-else j p q = either OpensNone (eqb (w % 8) j) (λ e. p) (λ e. q)
 
 -- ---- Frames
 
@@ -147,7 +143,7 @@ module _ (sheet question forms : List ℕ) where
   unfolding framesIn
   frames-count words zero k = refl
   frames-count words (suc n) k =
-      by-test (λ (fs : List Frame). length fs ≡ suc n) (eqb (getD words n 0 % 8) 6) (λ e. ap suc (frames-count words n (k - 1))) (λ e. ap suc (frames-count words n k))
+      either (λ (fs : List Frame). length fs ≡ suc n) (eqb (getD words n 0 % 8) 6) (λ e. ap suc (frames-count words n (k - 1))) (λ e. ap suc (frames-count words n k))
 
   -- the occurrence whose definition is running
   pub innermost-form : (words : List ℕ) (n k : ℕ) → 0 < length (openForms (framesOf words n k))
@@ -155,7 +151,7 @@ module _ (sheet question forms : List ℕ) where
   unfolding framesIn openForms innermost
   innermost-form words zero k = λ h. absurd (omega arith)
   innermost-form words (suc n) k =
-      by-test (λ fs. 0 < length (openForms fs) → innermost (openForms fs) ≡ formOccurrence sheet forms (k - 1)) (eqb (getD words n 0 % 8) 6)
+      either (λ fs. 0 < length (openForms fs) → innermost (openForms fs) ≡ formOccurrence sheet forms (k - 1)) (eqb (getD words n 0 % 8) 6)
       (λ e h. refl)
       (λ e h. let same = plain-open (getD words n 0) .open-forms (framesOf words n k) in rw same (innermost-form words n k (rw same at h)))
 

@@ -12,7 +12,7 @@ use Rattle.specs.specs.declared.Value.{Value}
 use Rattle.specs.specs.Expressions.{Head, base-literal, function-literal, if-head, application-head, attribute-head, this-head, parameter-head, no-head, headOf}
 use Rattle.engine.specs.declared.Registers.{Registers}
 use Rattle.engine.specs.Steps.{Memory, Stepped, goes, waits, finishes, stops, readHead, takeIf, within, closeForm, openRule, openFigure, takeKept, attributeDue, give, readNext, stepOf}
-use Rattle.engine.proofs.Words.{by-test}
+use Rattle.specs.proofs.Preservation.{either}
 
 module _ (sheet index : List ℕ) (attributes limit : ℕ) (mem : Memory) (m : Registers) where
   -- the count stays within the limit
@@ -41,8 +41,8 @@ module _ (sheet index : List ℕ) (attributes limit : ℕ) (mem : Memory) (m : R
   within-counts : (budget : ℕ) (next : Stepped) → (m .steps < limit → Counts next) → Counts (within budget limit m next)
   unfolding within
   within-counts budget next h =
-      by-test Counts (leb budget (m .steps)) {x = stops 15} (λ _. tt)
-      (λ _. by-test Counts (leb limit (m .steps)) {x = waits} (λ _. tt) (λ before. h (leb-false _ _ before)))
+      either Counts (leb budget (m .steps)) {x = stops 15} (λ _. tt)
+      (λ _. either Counts (leb limit (m .steps)) {x = waits} (λ _. tt) (λ before. h (leb-false _ _ before)))
 
   if-counts : m .steps < limit → (skip : ℕ) (b : Bool) → Counts (takeIf skip mem m b)
   unfolding takeIf
@@ -62,27 +62,27 @@ module _ (sheet index : List ℕ) (attributes limit : ℕ) (mem : Memory) (m : R
   attribute-counts : (budget n a : ℕ) → Counts (attributeDue sheet index attributes budget limit mem m n a)
   unfolding attributeDue
   attribute-counts budget n a =
-      by-test Counts (eqb n null) {x = stops 14} (λ _. tt) λ _.
-      by-test Counts (leb budget (m .steps)) {x = stops 15} (λ _. tt) λ _.
-      by-test Counts (leb 64 (m .forms)) {x = stops 16} (λ _. tt) λ _.
-      by-test Counts (leb limit (m .steps)) {x = waits} (λ _. tt) λ before. kept-counts (leb-false _ _ before) n a _
+      either Counts (eqb n null) {x = stops 14} (λ _. tt) λ _.
+      either Counts (leb budget (m .steps)) {x = stops 15} (λ _. tt) λ _.
+      either Counts (leb 64 (m .forms)) {x = stops 16} (λ _. tt) λ _.
+      either Counts (leb limit (m .steps)) {x = waits} (λ _. tt) λ before. kept-counts (leb-false _ _ before) n a _
 
   give-counts : (budget skip packed w : ℕ) → Counts (give sheet index attributes budget limit skip packed mem m w)
   unfolding give closeForm
   give-counts budget skip packed w =
-      by-test Counts (eqb (w % 8) 0) (λ _. within-counts budget _ (λ before. if-counts before skip (truth (m .value)))) λ _.
-      by-test Counts (eqb (w % 8) 1) (λ _ h. h) λ _.
-      by-test Counts (eqb (w % 8) 2) (λ _ h. h) λ _.
-      by-test Counts (eqb (w % 8) 3) (λ _. within-counts budget _ (λ before h. omega arith)) λ _.
-      by-test Counts (eqb (w % 8) 4) (λ _ h. h) λ _.
-      by-test Counts (eqb (w % 8) 6) (λ _ h. h) λ _.
+      either Counts (eqb (w % 8) 0) (λ _. within-counts budget _ (λ before. if-counts before skip (truth (m .value)))) λ _.
+      either Counts (eqb (w % 8) 1) (λ _ h. h) λ _.
+      either Counts (eqb (w % 8) 2) (λ _ h. h) λ _.
+      either Counts (eqb (w % 8) 3) (λ _. within-counts budget _ (λ before h. omega arith)) λ _.
+      either Counts (eqb (w % 8) 4) (λ _ h. h) λ _.
+      either Counts (eqb (w % 8) 6) (λ _ h. h) λ _.
       attribute-counts budget _ _
 
   move-counts : (question : List ℕ) (budget skip packed : ℕ) → Counts (stepOf sheet index attributes question budget limit skip packed mem m)
   unfolding stepOf
   move-counts question budget skip packed =
-      by-test Counts (m .returning)
-      (λ _. by-test Counts (eqb (m .frames) 0) {x = finishes} (λ _. tt) (λ _. give-counts budget skip packed _))
+      either Counts (m .returning)
+      (λ _. either Counts (eqb (m .frames) 0) {x = finishes} (λ _. tt) (λ _. give-counts budget skip packed _))
       (λ _. reading-counts _)
 
   pub counts-on : (question : List ℕ) (budget skip packed : ℕ) {m′ : Registers} {mem′ : Memory}

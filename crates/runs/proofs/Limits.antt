@@ -5,7 +5,7 @@ use lib.Dec.{leb}
 use borrow.Author.Tests.{le-leb, lt-leb}
 use Rattle.engine.specs.declared.Registers.{Registers}
 use Rattle.engine.specs.Steps.{Memory, Stepped, goes, waits, stops, takeIf, within}
-use Rattle.engine.proofs.Words.{by-test}
+use Rattle.specs.proofs.Preservation.{either}
 use Rattle.attributes.specs.declared.Step.{Step}
 use Rattle.attributes.specs.declared.Step.the-variants.{Goes, Waits, Finishes, Stops}
 use Rattle.attributes.specs.Due.{steppedOf, keptAfter, keptIn}
@@ -27,8 +27,8 @@ module _ (budget limit : ℕ) (m : Registers) (next : Stepped) where
   pub within-keeps : {kept : ℕ} → keptIn kept next ≡ kept → keptIn kept (within budget limit m next) ≡ kept
   unfolding within
   within-keeps {kept} keeps =
-      by-test (λ st. keptIn kept st ≡ kept) (leb budget (m .steps)) {x = stops 15} (λ _. refl)
-      (λ _. by-test (λ st. keptIn kept st ≡ kept) (leb limit (m .steps)) {x = waits} (λ _. refl) (λ _. keeps))
+      either (λ st. keptIn kept st ≡ kept) (leb budget (m .steps)) {x = stops 15} (λ _. refl)
+      (λ _. either (λ st. keptIn kept st ≡ kept) (leb limit (m .steps)) {x = waits} (λ _. refl) (λ _. keeps))
 
 -- The kept number after a move is that of what it comes to.
 pub kept-by : (r : Step) (mem : Memory) (m : Registers) → keptAfter r m ≡ keptIn (m .kept) (steppedOf r mem)

@@ -13,6 +13,7 @@ use Rattle.specs.specs.Caching.{Entry}
 use Rattle.specs.specs.Store.{checkStore}
 use Rattle.specs.proofs.Accepted.{pair-defined}
 use Rattle.specs.proofs.Entries.{store-in}
+use Rattle.specs.proofs.Words.{word-more}
 use Rattle.sheets.specs.Scan.{figurePlace, figureAt, indexed, ruleNumber, IndexedPair}
 use Rattle.sheets.proofs.Indexed.{attribute-by-index}
 use Rattle.stores.specs.Keys.{findKey, keyOf, valueWord}
@@ -25,7 +26,7 @@ use Rattle.engine.specs.Steps.{Memory}
 use Rattle.engine.specs.Represents.{Represents}
 use Rattle.engine.specs.Ready.{memoryOf}
 use Rattle.engine.proofs.Kept.{by-key}
-use Rattle.engine.proofs.Ready.{word-more, rest-reaches, frames-inside, if-starts, skip-starts}
+use Rattle.engine.proofs.Ready.{rest-reaches, frames-inside, if-starts, skip-starts}
 use Rattle.engine.proofs.Attributes.{form-counted, parameter-typed, due-in, attribute-is, definition-at}
 use Rattle.attributes.specs.Due.{WriteReady, CloseReady, FormReady, AttributeReady}
 use Rattle.runs.specs.Moves.{MoveReady}

@@ -11,24 +11,9 @@ use borrow.Author.Tests.{ltb-true, lt-ltb}
 use Rattle.specs.specs.Values.{Base, unitT, boolT, intT, nodeT, null, baseOf, ofBytes, isWord, ofWord}
 use Rattle.specs.specs.declared.Value.{Value}
 use Rattle.specs.specs.Sheet.{nodeCount}
+use Rattle.specs.proofs.Words.{word-more}
 use Rattle.sheets.specs.Scan.{figurePlace, rulePlace, figureAt, pieceAt, indexed, IndexedPair, IndexedRule, ruleNumber}
 use Rattle.sheets.proofs.Indexed.{kind-by-index}
-
--- A word for some nodes is one for more.
-or-true : (b : Bool) → (b || true) ≡ true
-or-true true = refl
-or-true false = refl
-
-more-nodes : (m n : ℕ) (B : Base) (w : ℕ) → m ≤ n → isWord m B w ≡ true → isWord n B w ≡ true
-unfolding isWord
-more-nodes m n unitT w h e = e
-more-nodes m n boolT w h e = e
-more-nodes m n intT w h e = e
-more-nodes m n nodeT w h e = go (ltb w m) refl e
-  where
-    go : (b : Bool) → ltb w m ≡ b → (b || eqb w null) ≡ true → (ltb w n || eqb w null) ≡ true
-    go true f k = rw (lt-ltb w n (omega (arith, ltb-true w m f)))
-    go false f k = rw k (or-true (ltb w n))
 
 -- ---- A figure
 
@@ -55,7 +40,7 @@ figure-here bytes index n a h some-place = go (getD index (n * 32 + a) 0) refl s
         record {
           room = omega arith;
           short = h .known .short;
-          word = rw same (more-nodes (nodeCount (h .sheet)) 1024 _ _ (h .known .nodes-bound) word);
+          word = rw same (word-more _ _ (h .known .nodes-bound) word);
           value = rw same;
         }
 

@@ -36,6 +36,22 @@ word-trip nodes boolT w h = bit-is-one w (ltb-true w 2 h)
 word-trip nodes intT w h = unsigned-signed w (ltb-true w 4294967296 h)
 word-trip nodes nodeT w h = refl
 
+-- a word of a type on a sheet of so many nodes is one on a larger
+pub word-more : {nodes more : ℕ} (B : Base) (w : ℕ) → nodes ≤ more → isWord nodes B w ≡ true → isWord more B w ≡ true
+unfolding isWord
+word-more unitT w n h = h
+word-more boolT w n h = h
+word-more intT w n h = h
+word-more {nodes} {more} nodeT w n h = go (ltb w nodes) refl h
+  where
+    or-true : (b : Bool) {c : Bool} → c ≡ true → (b || c) ≡ true
+    or-true true h = refl
+    or-true false h = h
+
+    go : (b : Bool) → ltb w nodes ≡ b → (b || eqb w null) ≡ true → (ltb w more || eqb w null) ≡ true
+    go true e h = rw (lt-ltb w more (omega (arith, ltb-true w nodes e)))
+    go false e h = or-true (ltb w more) h
+
 pub word-in : (nodes : ℕ) (B : Base) (w : ℕ) → isWord nodes B w ≡ true → IsA nodes B (ofWord B w)
 word-in nodes B w h = record { is-word = rw (word-trip nodes B w h) h; round-trip = rw (word-trip nodes B w h) }
 
