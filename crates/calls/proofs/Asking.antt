@@ -5,11 +5,10 @@ use Prim.Native.Nat.{ℕ, _/_}
 use native.Mathlib.Omega.{arith}
 use lib.ListN.{length}
 use Rattle.specs.specs.declared.Value.the-variants.{Unit as unit}
-use Rattle.specs.specs.Caching.{Ending, Ended, with-value, Reason, by}
-use Rattle.specs.specs.Ask.{endedAnswer, outcome, runQuestion, ask}
+use Rattle.specs.specs.Caching.{Ending, Ended}
+use Rattle.specs.specs.Ask.{endedAnswer, runQuestion, ask}
 use Rattle.stores.specs.Keys.{Linked}
 use Rattle.engine.specs.declared.Registers.{Registers}
-use Rattle.engine.specs.Steps.{Memory}
 use Rattle.engine.specs.Ready.{memoryOf}
 use Rattle.engine.specs.Loop.{Invariant, started, Final}
 use Rattle.engine.proofs.Loop.{question-short, invariant-start, invariant-answer, final-outcome}

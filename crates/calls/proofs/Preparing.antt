@@ -9,15 +9,15 @@ use lib.ListN.{length}
 use borrow.Author.Tests.{leb-true}
 use Rattle.specs.specs.Expressions.{Expr}
 use Rattle.specs.specs.Layout.{attributesIn}
-use Rattle.specs.specs.Sheet.{Sheet, nodeCount, attributeCount, Checked, refused, accepted, checkSheet}
+use Rattle.specs.specs.Sheet.{Sheet, Checked, refused, accepted, checkSheet}
 use Rattle.specs.specs.Caching.{Entry}
 use Rattle.specs.specs.Store.{checkStore}
-use Rattle.specs.specs.Ask.{Outcome, refusal, checkQuestion, afterQuestion, afterStore, afterSheet, ask}
-use Rattle.specs.specs.Calls.{Call, Lent, call, leaves}
+use Rattle.specs.specs.Ask.{refusal, checkQuestion, afterQuestion, afterStore, afterSheet, ask}
+use Rattle.specs.specs.Calls.{call, leaves}
 use Rattle.specs.proofs.Calls.{left-store-passes}
 use Rattle.sheets.specs.declared.SheetCheck.{SheetCheck}
 use Rattle.sheets.specs.declared.SheetCheck.the-variants as for-sheet
-use Rattle.sheets.specs.Scan.{checkOf, Checks, Indexed}
+use Rattle.sheets.specs.Scan.{checkOf, Checks}
 use Rattle.stores.specs.declared.StoreCheck.{StoreCheck}
 use Rattle.stores.specs.declared.StoreCheck.the-variants as for-store
 use Rattle.stores.specs.Keys.{storeCheckOf, Linked, StoreChecked}

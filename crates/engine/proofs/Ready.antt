@@ -1,13 +1,11 @@
 -- What represents a machine is ready for the code: to read a head, or to give a value to a frame.
-use mathlib.Core.Bool.{Bool, true, false, _||_}
+use mathlib.Core.Bool.{true, false}
 use mathlib.Core.List.{List, [], _∷_}
 use mathlib.Core.Path.{_≡_, refl, ap}
 use Prim.Native.Nat.{ℕ, suc, _+_, _*_, _-_, _%_, _≤_, _<_}
 use native.Mathlib.Omega.{arith}
-use lib.Dec.{ltb, eqb}
 use lib.ListN.{length, getD}
-use borrow.Author.Tests.{ltb-true, lt-ltb}
-use Rattle.specs.specs.Values.{Base, unitT, boolT, intT, nodeT, Ty, base, null, isWord}
+use Rattle.specs.specs.Values.{Ty, base}
 use Rattle.specs.specs.Types.{Attribute}
 use Rattle.specs.specs.Expressions.{Scope, Head, base-literal, function-literal, if-head, application-head, attribute-head, this-head, parameter-head, no-head, headOf}
 use Rattle.specs.specs.Sheet.{Sheet, nodeCount, questionScope}

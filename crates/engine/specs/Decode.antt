@@ -4,18 +4,16 @@ use mathlib.Core.List.{List, [], _∷_}
 use mathlib.Core.Path.{_≡_}
 use Prim.Native.Nat.{ℕ, zero, suc, _+_, _*_, _-_, _/_, _%_, _≤_, _<_}
 use lib.Dec.{eqb}
-use lib.ListN.{length, take, drop, getD}
-use Rattle.specs.specs.Values.{Base, base, baseOf, ofWord, toWord}
+use lib.ListN.{length, getD}
+use Rattle.specs.specs.Values.{baseOf, ofWord, toWord}
 use Rattle.specs.specs.declared.Value.{Value}
-use Rattle.specs.specs.Expressions.{Expr}
-use Rattle.specs.specs.Sheet.{Sheet, emptySheet, nodeCount, attributeCount, Checked, refused, accepted, checkSheet}
+use Rattle.specs.specs.Sheet.{Sheet, emptySheet, Checked, refused, accepted, checkSheet}
 use Rattle.specs.specs.Terms.{Occurrence}
 use Rattle.specs.specs.Caching.{Entry}
 use Rattle.specs.specs.Store.{checkStore}
-use Rattle.specs.specs.Ask.{checkQuestion}
 use Rattle.pieces.specs.Pieces.{pieceIn, restOf}
 use Rattle.frames.specs.Words.{valueIn}
-use Rattle.machine.specs.Machine.{Frame, on-if, on-left, on-skip, on-right, on-node, on-parameter, on-form, Mode, evaluating, returning, Machine, openForms, stateOf}
+use Rattle.machine.specs.Machine.{Frame, on-if, on-left, on-skip, on-right, on-node, on-parameter, on-form, Mode, evaluating, returning, Machine, openForms}
 use Rattle.engine.specs.declared.Registers.{Registers}
 
 -- the sheet that accepted bytes are

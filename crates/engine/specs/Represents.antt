@@ -2,21 +2,20 @@
 use mathlib.Core.Bool.{true}
 use mathlib.Core.List.{List}
 use mathlib.Core.Path.{_≡_}
-use Prim.Native.Nat.{ℕ, _+_, _*_, _-_, _/_, _%_, _≤_, _<_}
+use Prim.Native.Nat.{ℕ, _-_, _/_, _%_, _≤_, _<_}
 use lib.ListN.{length, getD}
 use Rattle.specs.specs.Values.{Base, base}
 use Rattle.specs.specs.declared.Value.{Value}
 use Rattle.specs.specs.Expressions.{Expr, Scope, reads, readExpr}
-use Rattle.specs.specs.Sheet.{Sheet, nodeCount, attributeCount, accepted, checkSheet}
-use Rattle.specs.specs.Caching.{Counted, Reason}
+use Rattle.specs.specs.Sheet.{nodeCount, attributeCount, accepted, checkSheet}
+use Rattle.specs.specs.Caching.{Reason}
 use Rattle.specs.specs.Ask.{reasonNumber}
 use Rattle.specs.proofs.Sound.{TermIn}
 use Rattle.sheets.specs.Scan.{Indexed}
 use Rattle.frames.specs.Words.{valueIn}
-use Rattle.machine.specs.Machine.{Machine, Move, finishes, moves, takes, stops, move, openForms, stateOf}
+use Rattle.machine.specs.Machine.{Machine, finishes, stops, move, stateOf}
 use Rattle.engine.specs.Decode.{sheetOf, machineOf, Holds}
 use Rattle.engine.specs.Steps.{Memory, Stepped, goes, waits}
-use Rattle.engine.specs.Steps as Steps
 use Rattle.engine.specs.declared.Registers.{Registers}
 use Rattle.machine.specs.Good.{Good, Small}
 use Rattle.machine.specs.Machine.{Next}

@@ -2,19 +2,18 @@
 use mathlib.Core.Bool.{Bool, true, false, cond}
 use mathlib.Core.Option.{Option, none, some}
 use mathlib.Core.List.{List, [], _∷_, _++_}
-use Prim.Native.Nat.{ℕ, zero, suc, _+_, _*_, _-_, _/_, _%_}
-use lib.Dec.{leb, ltb, eqb}
+use Prim.Native.Nat.{ℕ, _+_, _*_, _-_, _/_, _%_}
+use lib.Dec.{leb, eqb}
 use lib.ListN.{length, take, drop, getD, set}
-use Rattle.specs.specs.Values.{Base, unitT, boolT, intT, nodeT, null, functionOf, baseOf, ofBytes, toBytes, ofWord, toWord, truth, nodeOf, apply}
+use Rattle.specs.specs.Values.{null, functionOf, baseOf, ofBytes, toBytes, ofWord, toWord, truth, nodeOf, apply}
 use Rattle.specs.specs.declared.Value.{Value}
-use Rattle.specs.specs.declared.Value.the-variants.{Unit as unit, Bool as bool, Int as int, Node as node, Function as function}
-use Rattle.specs.specs.Expressions.{Scope, Head, base-literal, function-literal, if-head, application-head, attribute-head, this-head, parameter-head, no-head, headOf, operandWidth, readExpr}
-use Rattle.specs.specs.Sheet.{Sheet, ruleScope}
+use Rattle.specs.specs.declared.Value.the-variants.{Node as node, Function as function}
+use Rattle.specs.specs.Expressions.{Head, base-literal, function-literal, if-head, application-head, attribute-head, this-head, parameter-head, no-head, headOf, operandWidth}
 use Rattle.pieces.specs.Pieces.{restOf}
 use Rattle.frames.specs.Words.{valueIn}
-use Rattle.sheets.specs.Scan.{figurePlace, rulePlace, figureAt, pieceAt, indexed}
+use Rattle.sheets.specs.Scan.{figurePlace, rulePlace, figureAt, indexed}
 use Rattle.stores.specs.Keys.{Key, findKey}
-use Rattle.engine.specs.Decode.{sheetOf, formOccurrence}
+use Rattle.engine.specs.Decode.{formOccurrence}
 use Rattle.engine.specs.declared.Registers.{Registers}
 
 -- The memory that a move may write, besides the store's index.

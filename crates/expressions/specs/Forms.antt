@@ -1,10 +1,9 @@
 -- What the code answers of an expression's form and type, by the definitions of crate specs.
 use mathlib.Core.Bool.{Bool}
 use mathlib.Core.Option.{Option, none, some}
-use mathlib.Core.List.{List, [], _∷_}
-use Prim.Native.Nat.{ℕ, zero, suc, _+_, _*_}
-use lib.ListN.{drop, getD}
-use Rattle.specs.specs.Values.{Base, unitT, nodeT, baseCode, baseOf, Ty, base, _⇒_}
+use mathlib.Core.List.{List}
+use Prim.Native.Nat.{ℕ, _+_, _*_}
+use Rattle.specs.specs.Values.{Base, unitT, nodeT, baseCode, Ty, base, _⇒_}
 use Rattle.specs.specs.Expressions.{Expr, Head, Scope, Reading, malformed, reads, readAfter, readExpr, Whole, no-expression, expression}
 use Rattle.specs.specs.Types.{Attribute, given, infer}
 use Rattle.specs.specs.Sheet.{Checked, refused, accepted}

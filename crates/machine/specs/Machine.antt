@@ -4,17 +4,17 @@ use mathlib.Core.Bool.{Bool, true, false}
 use mathlib.Core.Bool as Bool
 use mathlib.Core.Option.{Option, none, some}
 use mathlib.Core.Path.{_≡_}
-use mathlib.Core.List.{List, [], _∷_, _++_}
-use Prim.Native.Nat.{ℕ, zero, suc, _+_}
+use mathlib.Core.List.{List, [], _∷_}
+use Prim.Native.Nat.{ℕ, suc}
 use lib.Dec.{leb, ltb, eqb}
 use lib.ListN.{length, take, drop, getD}
-use Rattle.specs.specs.Values.{Base, null, functionOf, ofBytes, ofWord, truth, nodeOf, apply}
+use Rattle.specs.specs.Values.{null, functionOf, ofBytes, ofWord, truth, nodeOf, apply}
 use Rattle.specs.specs.declared.Value.{Value}
 use Rattle.specs.specs.declared.Value.the-variants.{Unit as unit, Node as node, Function as function}
 use Rattle.specs.specs.Expressions.{Expr, literal, Scope, Head, base-literal, function-literal, if-head, application-head, attribute-head, this-head, parameter-head, no-head, headOf, operandWidth, Reading, malformed, reads, readExpr}
 use Rattle.specs.specs.Sheet.{Sheet, ruleScope, questionScope, Definition, undefined, figure, piece-of, definition}
 use Rattle.specs.specs.Terms.{Occurrence, val, cond, app, attr, form, put}
-use Rattle.specs.specs.Caching.{Entry, kept, write, Running, Counted, CondTrue, CondFalse, AppApp, AttrApp, condRule, Reason, null-node, spent, depth, State}
+use Rattle.specs.specs.Caching.{Entry, kept, write, Running, Counted, CondTrue, CondFalse, AppApp, AttrApp, Reason, null-node, spent, depth, State}
 
 -- ---- States
 

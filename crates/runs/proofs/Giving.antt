@@ -1,11 +1,10 @@
 -- A value is given to a frame, by the kind of the frame.
-use mathlib.Core.Bool.{Bool, true, false, cond}
+use mathlib.Core.Bool.{Bool, true, false}
 use mathlib.Core.List.{List}
-use mathlib.Core.Path.{_≡_, refl, sym, ap, _∙_}
-use Prim.Native.Nat.{ℕ, _+_, _*_, _-_, _/_, _%_, _≤_, _<_}
+use mathlib.Core.Path.{_≡_, refl, sym, _∙_}
+use Prim.Native.Nat.{ℕ, _+_, _*_, _-_, _/_, _%_, _≤_}
 use native.Mathlib.Omega.{arith}
-use lib.Dec.{eqb}
-use lib.ListN.{length, getD, set}
+use lib.ListN.{getD, set}
 use borrow.Author.Tests.{ne-eqb}
 use Rattle.specs.specs.Values.{truth, nodeOf, apply}
 use Rattle.pieces.specs.Pieces.{restOf}
@@ -13,13 +12,13 @@ use Rattle.frames.specs.Words.{valueIn}
 use Rattle.stores.specs.Keys.{Linked}
 use Rattle.engine.specs.declared.Registers.{Registers}
 use Rattle.engine.specs.Steps.{Memory, Stepped, goes, turned, answered, takeIf, within, closeForm, attributeDue, give}
-use Rattle.engine.specs.Represents.{WidthOf, Packs, PacksIn}
+use Rattle.engine.specs.Represents.{PacksIn}
 use Rattle.engine.specs.Ready.{memoryOf, Rewrites, Passes, skipped}
 use Rattle.engine.proofs.Widths.{width-of}
 use Rattle.attributes.specs.declared.Step.{Step}
 use Rattle.attributes.specs.declared.Step.the-variants.{Goes, Waits, Finishes, Stops}
 use Rattle.attributes.specs.Due.{steppedOf, keptAfter, keptIn, Still}
-use Rattle.runs.specs.Moves.{MovesBy, GivesTo}
+use Rattle.runs.specs.Moves.{GivesTo}
 use Rattle.runs.proofs.Limits.{within-keeps, kept-by}
 
 -- one kind is no other

@@ -3,32 +3,28 @@ use mathlib.Core.Bool.{true, false≢true}
 use mathlib.Core.List.{List}
 use mathlib.Core.Option.{some}
 use mathlib.Core.Path.{_≡_, refl, sym}
-use Prim.Native.Nat.{ℕ, zero, suc, _+_, _*_, _-_, _/_, _%_, _^_, _≤_, _<_}
+use Prim.Native.Nat.{ℕ, zero, suc, _+_, _-_, _/_, _%_, _^_, _≤_, _<_}
 use native.Mathlib.Omega.{arith}
 use lib.ListN.{length, getD}
 use borrow.Author.Tests.{ne-eqb}
-use Rattle.specs.specs.Values.{null, nodeOf, baseOf, isWord, toWord}
-use Rattle.specs.specs.Sheet.{Sheet, figured, ruled, isDefined, accepted}
-use Rattle.specs.specs.Caching.{Entry}
-use Rattle.specs.specs.Store.{checkStore}
+use Rattle.specs.specs.Values.{nodeOf}
+use Rattle.specs.specs.Sheet.{Sheet, figured, ruled, isDefined}
 use Rattle.specs.proofs.Accepted.{pair-defined}
 use Rattle.specs.proofs.Entries.{store-in}
 use Rattle.specs.proofs.Words.{word-more}
-use Rattle.sheets.specs.Scan.{figurePlace, figureAt, indexed, ruleNumber, IndexedPair}
-use Rattle.sheets.proofs.Indexed.{attribute-by-index}
-use Rattle.stores.specs.Keys.{findKey, keyOf, valueWord}
+use Rattle.sheets.specs.Scan.{indexed}
+use Rattle.stores.specs.Keys.{keyOf}
 use Rattle.stores.proofs.Entries.{kept-word}
 use Rattle.pieces.specs.Pieces.{pieceIn, restOf, Starts}
 use Rattle.frames.specs.Words.{valueIn}
 use Rattle.engine.specs.declared.Registers.{Registers}
 use Rattle.engine.specs.Decode.{sheetOf}
-use Rattle.engine.specs.Steps.{Memory}
 use Rattle.engine.specs.Represents.{Represents}
 use Rattle.engine.specs.Ready.{memoryOf}
 use Rattle.engine.proofs.Kept.{by-key}
 use Rattle.engine.proofs.Ready.{rest-reaches, frames-inside, if-starts, skip-starts}
-use Rattle.engine.proofs.Attributes.{form-counted, parameter-typed, due-in, attribute-is, definition-at}
-use Rattle.attributes.specs.Due.{WriteReady, CloseReady, FormReady, AttributeReady}
+use Rattle.engine.proofs.Attributes.{form-counted, due-in, attribute-is, definition-at}
+use Rattle.attributes.specs.Due.{WriteReady, CloseReady, AttributeReady}
 use Rattle.runs.specs.Moves.{MoveReady}
 
 -- a running piece is short

@@ -1,26 +1,24 @@
 -- The rounds of the run's loop: what holds from move to move goes on holding, of every call whose run this is.
-use mathlib.Core.Bool.{true}
 use mathlib.Core.List.{List}
 use mathlib.Core.Path.{_≡_, refl, sym, ap, _∙_}
 use Prim.Native.Nat.{ℕ, _≤_, _<_}
 use native.Mathlib.Omega.{arith}
 use lib.ListN.{length}
-use Rattle.specs.specs.Caching.{Ended, with-value, Reason, by}
-use Rattle.specs.specs.Ask.{reasonNumber}
+use Rattle.specs.specs.Caching.{Ended}
 use Rattle.stores.specs.Keys.{Linked}
 use Rattle.engine.specs.declared.Registers.{Registers}
-use Rattle.engine.specs.Steps.{Memory, Stepped, goes, waits, finishes, stops, stepOf}
+use Rattle.engine.specs.Steps.{Memory, Stepped, goes, stepOf}
 use Rattle.engine.specs.Represents.{machineIn}
 use Rattle.engine.specs.Ready.{memoryOf}
-use Rattle.engine.specs.Loop.{Invariant, Final}
+use Rattle.engine.specs.Loop.{Invariant}
 use Rattle.engine.proofs.Loop.{invariant-on, invariant-falls, invariant-waits, invariant-finishes, invariant-stops}
 use Rattle.machine.proofs.Bounds.{measure}
 use Rattle.attributes.specs.declared.Step.{Step}
 use Rattle.attributes.specs.declared.Step.the-variants.{Goes, Waits, Finishes, Stops}
-use Rattle.attributes.specs.Due.{steppedOf, keptAfter, Still}
+use Rattle.attributes.specs.Due.{steppedOf, keptAfter}
 use Rattle.runs.specs.declared.RunEnd.the-variants as End
 use Rattle.runs.proofs.Counting.{counts-on}
-use Rattle.runs.specs.Moves.{MoveReady, StepsTo, Running, keptBy, RunsTo}
+use Rattle.runs.specs.Moves.{MoveReady, StepsTo, Running, RunsTo}
 
 module _ (sheet index question : List ℕ) (attributes budget limit : ℕ) where
   -- registers and memory, and those that the run began with

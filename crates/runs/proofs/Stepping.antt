@@ -2,20 +2,19 @@
 use mathlib.Core.Bool.{Bool, true, false, cond, false≢true}
 use mathlib.Core.List.{List, [], _∷_}
 use mathlib.Core.Path.{_≡_, refl, sym, ap, _∙_}
-use Prim.Native.Nat.{ℕ, _-_, _<_}
+use Prim.Native.Nat.{ℕ, _-_}
 use native.Mathlib.Omega.{arith}
-use lib.Dec.{eqb}
 use lib.ListN.{getD}
 use borrow.Author.Tests.{eq-eqb, ne-eqb}
 use Rattle.specs.specs.Expressions.{Head, base-literal, function-literal, if-head, application-head, attribute-head, this-head, parameter-head, no-head, headOf}
 use Rattle.pieces.specs.Pieces.{restOf}
 use Rattle.stores.specs.Keys.{Linked}
 use Rattle.engine.specs.declared.Registers.{Registers}
-use Rattle.engine.specs.Steps.{Memory, Stepped, goes, waits, readHead, readNext, give, stepOf}
+use Rattle.engine.specs.Steps.{Memory, goes, readHead, readNext, stepOf}
 use Rattle.engine.specs.Ready.{memoryOf}
 use Rattle.engine.proofs.Widths.{width-of}
 use Rattle.attributes.specs.declared.Step.{Step}
-use Rattle.attributes.specs.declared.Step.the-variants.{Goes, Waits, Finishes, Stops}
+use Rattle.attributes.specs.declared.Step.the-variants.{Goes, Finishes}
 use Rattle.attributes.specs.Due.{steppedOf, keptAfter, keptIn}
 use Rattle.runs.specs.Moves.{GivesTo, StepsTo}
 

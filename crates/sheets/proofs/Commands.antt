@@ -3,14 +3,14 @@ use mathlib.Core.Bool.{Bool, true, false}
 use mathlib.Core.List.{List}
 use mathlib.Core.Option.{Option, none, some}
 use mathlib.Core.Path.{_≡_, refl, sym, ap, _∙_}
-use Prim.Native.Nat.{ℕ, zero, suc, _+_, _*_, _-_, _≤_, _<_}
+use Prim.Native.Nat.{ℕ, _+_, _*_, _-_, _≤_, _<_}
 use native.Mathlib.Omega.{arith}
 use lib.ListN.{length, take, drop, getD, set}
 use borrow.Author.Tests.{lt-ltb, le-ltb, le-leb, lt-leb, eq-eqb, ne-eqb}
 use Rattle.specs.specs.Values.{Base, unitT, boolT, intT, nodeT, baseCode, baseOf, Ty, base, _⇒_, ofBytes, isWord}
 use Rattle.specs.specs.Expressions.{Expr, Whole, no-expression, expression, readWhole}
 use Rattle.specs.specs.Types.{Attribute, infer, hasType}
-use Rattle.specs.specs.Sheet.{Command, attribute-command, node-command, figure-command, rule-command, end-command, no-command, commandOf}
+use Rattle.specs.specs.Sheet.{Command, no-command, commandOf}
 use Rattle.specs.specs.Layout.{attributesIn}
 use Rattle.specs.proofs.Inference.{hasType-sound, hasType-complete}
 use Rattle.expressions.specs.declared.Formed.{Formed}
@@ -20,7 +20,7 @@ use Rattle.expressions.proofs.Numbers.{base-small, number-positive}
 use Rattle.sheets.specs.declared.Progress.{Progress}
 use Rattle.sheets.specs.declared.Read.{Read}
 use Rattle.sheets.specs.declared.Read.the-variants.{Stops, Ends, GoesOn}
-use Rattle.sheets.specs.Scan.{figurePlace, rulePlace, pieceAt, Scanned, stops, ends, goes-on, demand, scanAttribute, clearRow, scanNode, scanFigure, demandRule, scanRule, scanEnd, scanAt, scanCommand, ReadAs}
+use Rattle.sheets.specs.Scan.{figurePlace, pieceAt, Scanned, stops, ends, goes-on, demand, scanAttribute, clearRow, scanNode, scanFigure, demandRule, scanRule, scanEnd, scanAt, scanCommand, ReadAs}
 
 -- ---- What the code reads
 

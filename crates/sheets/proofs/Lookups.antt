@@ -1,18 +1,15 @@
 -- What the index of an accepted sheet gives for a figure and for a rule.
-use mathlib.Core.Bool.{Bool, true, false, _||_}
+use mathlib.Core.Bool.{true}
 use mathlib.Core.List.{List}
 use mathlib.Core.Option.{none, some}
 use mathlib.Core.Path.{_≡_, refl, sym, ap, _∙_}
 use Prim.Native.Nat.{ℕ, zero, suc, _+_, _*_, _-_, _≤_, _<_}
 use native.Mathlib.Omega.{arith}
-use lib.Dec.{ltb, eqb}
 use lib.ListN.{length, take, drop, getD}
-use borrow.Author.Tests.{ltb-true, lt-ltb}
-use Rattle.specs.specs.Values.{Base, unitT, boolT, intT, nodeT, null, baseOf, ofBytes, isWord, ofWord}
+use Rattle.specs.specs.Values.{baseOf, ofBytes, isWord, ofWord}
 use Rattle.specs.specs.declared.Value.{Value}
-use Rattle.specs.specs.Sheet.{nodeCount}
 use Rattle.specs.proofs.Words.{word-more}
-use Rattle.sheets.specs.Scan.{figurePlace, rulePlace, figureAt, pieceAt, indexed, IndexedPair, IndexedRule, ruleNumber}
+use Rattle.sheets.specs.Scan.{figureAt, pieceAt, indexed, IndexedPair, IndexedRule, ruleNumber}
 use Rattle.sheets.proofs.Indexed.{kind-by-index}
 
 -- ---- A figure

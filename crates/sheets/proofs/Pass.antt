@@ -1,13 +1,12 @@
 -- The pass over the commands, one after the other: what is left of it from here on is all of it, and the index describes the sheet so far.
 use mathlib.Core.Bool.{Bool, true, false, cond, _&&_, and-eq-true-iff}
 use mathlib.Core.List.{List}
-use mathlib.Core.Option.{Option}
-use mathlib.Core.Path.{_≡_, refl, sym, ap, _∙_}
-use Prim.Native.Nat.{ℕ, zero, suc, _+_, _*_, _≤_, _<_}
+use mathlib.Core.Path.{_≡_, refl, ap, _∙_}
+use Prim.Native.Nat.{ℕ, zero, suc, _+_, _≤_, _<_}
 use native.Mathlib.Omega.{arith}
 use lib.Dec.{leb, ltb, eqb}
-use lib.ListN.{length, take, drop, getD, set}
-use borrow.Author.Tests.{leb-true, ltb-true}
+use lib.ListN.{length, getD}
+use borrow.Author.Tests.{leb-true}
 use Rattle.specs.specs.Expressions.{Whole, no-expression, expression}
 use Rattle.specs.specs.Sheet.{Sheet, emptySheet, nodeCount, attributeCount, Read as SheetRead, Command, attribute-command, node-command, figure-command, rule-command, end-command, no-command, commandOf}
 use Rattle.sheets.specs.declared.Progress.{Progress}

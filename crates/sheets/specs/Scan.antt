@@ -2,7 +2,7 @@
 -- index of where each figure and each rule stands. Scan.antt of proofs/ shows that it is checkSheet.
 use mathlib.Core.Bool.{Bool, true, false, not, _&&_, _||_, cond}
 use mathlib.Core.Option.{Option, none, some}
-use mathlib.Core.List.{List, [], _∷_}
+use mathlib.Core.List.{List}
 use mathlib.Core.Path.{_≡_}
 use Prim.Native.Nat.{ℕ, zero, suc, _+_, _*_, _≤_, _<_}
 use lib.Dec.{leb, ltb, eqb}
@@ -10,7 +10,7 @@ use lib.ListN.{length, take, drop, getD, set}
 use Rattle.specs.specs.Values.{baseOf, base, ofBytes, isWord, ofWord}
 use Rattle.specs.specs.declared.Value.{Value}
 use Rattle.specs.specs.Expressions.{Whole, no-expression, expression, readWhole}
-use Rattle.specs.specs.Types.{Attribute, hasType}
+use Rattle.specs.specs.Types.{hasType}
 use Rattle.specs.specs.Sheet.{Sheet, nodeCount, attributeCount, figureFor, ruleFor, Command, attribute-command, node-command, figure-command, rule-command, end-command, no-command, commandOf, Checked, refused, accepted, checkSheet}
 use Rattle.sheets.specs.declared.Progress.{Progress}
 use Rattle.sheets.specs.declared.Read.{Read}

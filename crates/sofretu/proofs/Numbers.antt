@@ -1,7 +1,7 @@
 -- The numbers of the C calls: two's complement of 64 bits, and that a refusal's number is never 0.
 use mathlib.Core.Bool.{Bool, true, false, cond, _&&_}
 use mathlib.Core.List.{List, [], _∷_, _++_}
-use mathlib.Core.Path.{_≡_, refl, sym, ap, _∙_}
+use mathlib.Core.Path.{_≡_, refl, sym, _∙_}
 use Prim.Native.Nat.{ℕ, zero, suc, _-_, _%_, _≤_, _<_}
 use native.Mathlib.Omega.{arith}
 use lib.Dec.{leb, eqb}
@@ -10,8 +10,7 @@ use lib.IntN.{ℤ, negsuc, _-ℤ_}
 use mir.Val.{toZ}
 use mir.Syntax.{w64}
 use mir.Facts.{toZ-pos}
-use Rattle.specs.specs.Layout.{attributesIn}
-use Rattle.specs.specs.Sheet.{Sheet, nodeCount, attributeCount, Checked, refused, accepted, checkSheet}
+use Rattle.specs.specs.Sheet.{Sheet, Checked, refused, accepted, checkSheet}
 use Rattle.specs.specs.Caching.{Entry}
 use Rattle.specs.specs.Store.{isEntry, entryOf, readEntries, capacity, checkStore}
 use Rattle.specs.proofs.Accepted.{refused-numbers}
@@ -22,7 +21,7 @@ use Rattle.sheets.specs.Scan.{checkOf, Checks}
 use Rattle.stores.specs.declared.StoreCheck.{StoreCheck}
 use Rattle.stores.specs.declared.StoreCheck.the-variants as for-store
 use Rattle.stores.specs.Keys.{storeCheckOf, StoreChecked}
-use Rattle.calls.specs.Prepared.{PreparedSheet, PreparedStore}
+use Rattle.calls.specs.Prepared.{PreparedSheet}
 use Rattle.calls.proofs.Preparing.{sheet-prepared, sheet-of, store-prepared}
 use Rattle.sofretu.specs.Check.{sheetFound, storeFound, StoreFound}
 

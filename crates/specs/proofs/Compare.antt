@@ -3,20 +3,19 @@
 use mathlib.Core.Bool.{Bool, true, false, false≢true}
 use mathlib.Core.Bool as Bool
 use mathlib.Core.Logic.{_⊎_, inl, inr}
-use mathlib.Core.Option.{Option, none, some}
+use mathlib.Core.Option.{some}
 use mathlib.Core.List.{List, [], _∷_}
 use mathlib.Core.Path.{_≡_, refl, sym, _∙_, ap}
-use Prim.Native.Nat.{ℕ, zero, suc, _+_, _≤_, _<_, zero-le, suc-le-suc}
+use Prim.Native.Nat.{ℕ, suc, _+_, _≤_}
 use native.Mathlib.Omega.{arith}
 use native.Mathlib.Numerals.{add-one}
 use borrow.Author.Tests.{ltb-true, lt-ltb}
-use lib.Dec.{eqb, leb, ltb}
-use lib.ListN.{length}
-use Rattle.specs.specs.Values.{Value, null, truth, nodeOf, apply}
+use lib.Dec.{eqb, ltb}
+use Rattle.specs.specs.Values.{Value, null}
 use Rattle.specs.specs.Expressions.{Expr}
-use Rattle.specs.specs.Terms.{Occurrence, val, cond, app, attr, form, put}
-use Rattle.specs.specs.Plain.{Plain, PlainStep, is-value, steps-to, on-null, plainStep, plainAt}
-use Rattle.specs.specs.Caching.{Entry, Running, kept, keptOr, write, Due, finished, counts, writes, halts, Counted, AppApp, AttrApp, condRule, Reason, null-node, spent, depth, duePart, count, attrApp, due, State, Ending, with-value, by, Ended, dueAt, run}
+use Rattle.specs.specs.Terms.{Occurrence, val, cond, app, attr, form}
+use Rattle.specs.specs.Plain.{Plain, on-null, plainStep, plainAt}
+use Rattle.specs.specs.Caching.{Entry, Running, Due, finished, counts, writes, halts, Reason, null-node, spent, depth, duePart, count, attrApp, due, State, Ending, with-value, by, Ended, dueAt}
 use Rattle.specs.proofs.Erasure.{erase, Right, Faithful, Seen, comes-on, step-first}
 use Rattle.specs.proofs.Ends.{Runs, ends-value, ends-by, goes-counted, goes-writing, spent-used}
 use Rattle.specs.proofs.Keeping.{seen-at, right-write}

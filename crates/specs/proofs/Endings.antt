@@ -10,10 +10,10 @@ use Rattle.specs.specs.Expressions.{Expr}
 use Rattle.specs.specs.Sheet.{Sheet, context}
 use Rattle.specs.specs.Terms.{val}
 use Rattle.specs.specs.Plain.{Plain, is-value, on-null, plainStep, plainAt, EndsWithValue, EndsOnNull}
-use Rattle.specs.specs.Caching.{kept, null-node, spent, depth, with-value, by, Ending, Ended, run}
+use Rattle.specs.specs.Caching.{kept, null-node, spent, depth, with-value, by, Ending, Ended}
 use Rattle.specs.specs.Ask.{Answer, asked, reasonNumber, endedAnswer}
 use Rattle.specs.specs.Demand3.{PlainEnding, a-value, on-null-node, PlainEnds, Brings, HasEnding}
-use Rattle.specs.proofs.Larger.{larger, BringsIn}
+use Rattle.specs.proofs.Larger.{BringsIn}
 use Rattle.specs.proofs.PlainFacts.{Final, final-value, final-null, last, one-end}
 use Rattle.specs.proofs.Compare.{Follows}
 

@@ -3,7 +3,7 @@ use mathlib.Core.Bool.{Bool, true, false}
 use mathlib.Core.Bool as Bool
 use mathlib.Core.Option.{Option, none, some}
 use mathlib.Core.List.{List, [], _∷_}
-use mathlib.Core.Path.{_≡_, refl, sym, _∙_, ap}
+use mathlib.Core.Path.{_≡_, refl, sym}
 use Prim.Native.Nat.{ℕ, zero, suc, _+_, _*_, _-_, _≤_, _<_, zero-le}
 use native.Mathlib.Nat.{le-of-eq}
 use native.Mathlib.Numerals.{add-one}
@@ -11,10 +11,10 @@ use native.Mathlib.Omega.{arith}
 use borrow.Author.Tests.{ltb-true, ltb-false}
 use lib.Dec.{ltb, leb, eqb}
 use lib.ListN.{length}
-use Rattle.specs.specs.Values.{Value, null, truth, nodeOf, apply}
+use Rattle.specs.specs.Values.{Value, null, truth}
 use Rattle.specs.specs.Expressions.{Expr, literal, if, application, attribute, this, parameter}
-use Rattle.specs.specs.Terms.{Occurrence, Term, val, cond, app, attr, form, put}
-use Rattle.specs.specs.Caching.{Entry, Running, kept, keptOr, write, Due, finished, counts, writes, halts, Counted, AppApp, AttrApp, condRule, Reason, null-node, spent, depth, duePart, count, attrApp, due, State, Ending, with-value, by, Ended, dueAt, run}
+use Rattle.specs.specs.Terms.{Occurrence, val, cond, app, attr, form, put}
+use Rattle.specs.specs.Caching.{Entry, Running, kept, keptOr, write, Due, finished, counts, writes, halts, Counted, AttrApp, Reason, null-node, spent, depth, duePart, count, attrApp, due, State, with-value, by, Ended, dueAt, run}
 
 -- ---- A finished run, as a relation
 

@@ -2,7 +2,7 @@
 use mathlib.Core.Bool.{Bool, true, false}
 use mathlib.Core.Bool as Bool
 use mathlib.Core.Option.{Option, none, some, Option·getD}
-use mathlib.Core.List.{List, [], _∷_}
+use mathlib.Core.List.{List, _∷_}
 use mathlib.Core.Path.{_≡_, refl, sym, _∙_, ap}
 use Prim.Native.Nat.{ℕ, zero, suc, _+_}
 use lib.Dec.{eqb, leb}
@@ -11,8 +11,8 @@ use native.Mathlib.Nat.{zero-add, suc-add}
 use Rattle.specs.specs.Values.{Value, null, truth, nodeOf, apply}
 use Rattle.specs.specs.Expressions.{Expr, literal, if, application, attribute, this, parameter}
 use Rattle.specs.specs.Terms.{Occurrence, Term, val, cond, app, attr, form, put}
-use Rattle.specs.specs.Plain.{Plain, PlainStep, is-value, steps-to, on-null, stepPart, plainAttribute, plainStep, plainAt}
-use Rattle.specs.specs.Caching.{Entry, Running, kept, Due, finished, counts, writes, halts, Counted, AppApp, AttrApp, Reason, null-node, spent, depth, duePart, count, attrApp, keptOr, due}
+use Rattle.specs.specs.Plain.{Plain, steps-to, on-null, stepPart, plainAttribute, plainStep, plainAt}
+use Rattle.specs.specs.Caching.{Entry, Running, kept, Due, finished, counts, writes, halts, Counted, AppApp, AttrApp, null-node, spent, depth, duePart, count, attrApp, keptOr, due}
 use Rattle.specs.proofs.PlainFacts.{stepped}
 
 -- the forms removed

@@ -1,17 +1,17 @@
 -- A question call on bytes (document 01, "Stops by origin" and "Contracts").
-use mathlib.Core.Bool.{Bool, true, false, cond}
+use mathlib.Core.Bool.{cond}
 use mathlib.Core.Option.{Option, none, some}
-use mathlib.Core.List.{List, [], _∷_}
-use Prim.Native.Nat.{ℕ, zero, suc, _+_, _*_}
+use mathlib.Core.List.{List}
+use Prim.Native.Nat.{ℕ, suc, _*_}
 use lib.Dec.{leb}
 use lib.ListN.{length}
 use lib.IntN.{ℤ, pos}
-use Rattle.specs.specs.Values.{Base, unitT, Ty, base, _⇒_, Value, unit, typeCode, decimal}
+use Rattle.specs.specs.Values.{unitT, Ty, base, _⇒_, unit, typeCode, decimal}
 use Rattle.specs.specs.Expressions.{Expr, Whole, no-expression, expression, readWhole}
 use Rattle.specs.specs.Types.{infer}
 use Rattle.specs.specs.Sheet.{Sheet, Checked, refused, accepted, checkSheet, questionScope, context}
 use Rattle.specs.specs.Terms.{Term, put}
-use Rattle.specs.specs.Caching.{Entry, Running, Reason, null-node, spent, depth, Ending, with-value, by, State, Ended, run}
+use Rattle.specs.specs.Caching.{Entry, Reason, null-node, spent, depth, Ending, with-value, by, Ended, run}
 use Rattle.specs.specs.Store.{capacity, checkStore, leftStore}
 
 -- "An answer has number (0 for a value), place, type, value, steps, kept."

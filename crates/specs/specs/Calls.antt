@@ -1,7 +1,6 @@
 -- Lists of question calls (document 01, "Contracts": "The list is any number of question calls, none included").
 use mathlib.Core.List.{List, [], _∷_}
-use Prim.Native.Nat.{ℕ, _*_}
-use lib.ListN.{replicate}
+use Prim.Native.Nat.{ℕ}
 use Rattle.specs.specs.Ask.{Answer, Outcome, ask}
 
 -- A call's question bytes and budget.

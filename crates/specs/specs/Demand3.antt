@@ -1,6 +1,6 @@
 -- What is kept can never change an answer: the engine's calls against plain Saiga, over every list of questions
 -- (document 01, "Contracts": "Demand 3 is a single claim over every list").
-use mathlib.Core.List.{List, [], _∷_, _++_}
+use mathlib.Core.List.{List}
 use mathlib.Core.Logic.{_⊎_}
 use mathlib.Core.Path.{_≡_}
 use Prim.Native.Nat.{ℕ, _*_, _≤_}

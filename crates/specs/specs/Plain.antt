@@ -1,5 +1,5 @@
 -- Plain Saiga (document 01, "Plain Saiga"): no store, no form n.a(v) := e, no limits.
-use mathlib.Core.Bool.{Bool, true, false}
+use mathlib.Core.Bool.{Bool}
 use mathlib.Core.Bool as Bool
 use mathlib.Core.Option.{Option, none, some}
 use mathlib.Core.Path.{_≡_}

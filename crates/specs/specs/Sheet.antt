@@ -1,11 +1,11 @@
 -- A sheet read from bytes, stops 1 to 8, and the context σ (document 01, "The sheet" and "Stops by origin").
-use mathlib.Core.Bool.{Bool, true, false, not, _&&_, _||_, cond}
+use mathlib.Core.Bool.{Bool, true, false, _&&_, cond}
 use mathlib.Core.Option.{Option, none, some}
 use mathlib.Core.List.{List, [], _∷_, _++_}
 use Prim.Native.Nat.{ℕ, zero, suc, _+_, _*_}
 use lib.Dec.{leb, ltb, eqb}
 use lib.ListN.{length, take, drop, getD}
-use Rattle.specs.specs.Values.{Base, unitT, baseOf, Ty, base, Value, unit, ofBytes, isWord, ofWord}
+use Rattle.specs.specs.Values.{baseOf, base, Value, unit, ofBytes, isWord, ofWord}
 use Rattle.specs.specs.Expressions.{Expr, literal, Scope, Whole, no-expression, expression, readWhole}
 use Rattle.specs.specs.Types.{Attribute, attributeAt, hasType}
 

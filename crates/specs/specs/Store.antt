@@ -1,14 +1,12 @@
 -- The store in bytes, and stops 9 and 10 (document 01, "The steps" and "Stops by origin").
 use mathlib.Core.Bool.{Bool, true, false, not, _&&_, cond}
-use mathlib.Core.Option.{Option, none, some}
 use mathlib.Core.List.{List, [], _∷_, _++_}
-use Prim.Native.Nat.{ℕ, zero, suc, _+_, _*_, _/_, _%_}
+use Prim.Native.Nat.{ℕ, zero, suc, _*_, _/_, _%_}
 use lib.Dec.{leb, ltb, eqb}
 use lib.ListN.{length, take, drop, getD}
-use Rattle.specs.specs.Values.{Value, ofBytes, toBytes, isWord, ofWord, toWord}
-use Rattle.specs.specs.Types.{Attribute, attributeAt}
+use Rattle.specs.specs.Values.{ofBytes, toBytes, isWord, ofWord, toWord}
+use Rattle.specs.specs.Types.{attributeAt}
 use Rattle.specs.specs.Sheet.{Sheet, nodeCount, attributeCount, Checked, refused, accepted}
-use Rattle.specs.specs.Terms.{Occurrence}
 use Rattle.specs.specs.Caching.{Entry, kept, isKept}
 
 -- "An entry is node (2), attribute (1), a zero byte, parameter (4), value (4)."

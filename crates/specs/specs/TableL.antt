@@ -3,7 +3,7 @@ use mathlib.Core.Bool.{true}
 use mathlib.Core.List.{List, [], _∷_}
 use mathlib.Core.Path.{_≡_}
 use Prim.Native.Nat.{ℕ, _*_}
-use lib.ListN.{replicate, take, length}
+use lib.ListN.{replicate, take}
 use lib.IntN.{ℤ, pos}
 use Rattle.specs.specs.Values.{Value, unit, bool, int, node}
 use Rattle.specs.specs.Expressions.{Expr}

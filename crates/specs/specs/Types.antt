@@ -5,7 +5,7 @@ use mathlib.Core.List.{List}
 use Prim.Native.Nat.{ℕ, _<_}
 use lib.Dec.{eqb, ltb}
 use lib.ListN.{length, getD}
-use Rattle.specs.specs.Values.{Base, unitT, boolT, intT, nodeT, baseCode, Ty, base, _⇒_, Value, typeOf}
+use Rattle.specs.specs.Values.{Base, unitT, boolT, nodeT, baseCode, Ty, base, _⇒_, Value, typeOf}
 use Rattle.specs.specs.Expressions.{Expr, literal, if, application, attribute, this, parameter}
 
 -- An attribute's result type τ(a) and parameter type ρ(a).

@@ -1,3 +1,4 @@
+-- `sheets::clear` meets its contract. The loop's invariant: the words so far are cleared.
 use Rattle.sheets.proofs.Clearing.{RestOfRow, row-done, row-more}
 use Rattle.sheets.specs.Scan.{clearRow}
 use lib.ListN.{length, length-set}
@@ -7,8 +8,6 @@ use mathlib.Core.Path.{_≡_, refl, _∙_}
 use borrow.Author.Needs.{needs}
 use Rattle.sheets.proofs.clear.Statement.{statement}
 use Rattle.sheets.proofs.clear.Tie as tie
-use Rattle.sheets.proofs.clear.Reads as reads
-use Rattle.sheets.proofs.clear.Lts as lts
 
 abbrev Inv-loop : tie.InvT-loop
 Inv-loop index₀ from count i₀ end index i = (length index ≡ length index₀) × RestOfRow end i index (clearRow count from index₀)
@@ -16,41 +15,32 @@ Inv-loop index₀ from count i₀ end index i = (length index ≡ length index�
 abbrev μ-loop : tie.MeasureT-loop
 μ-loop index₀ from count i₀ end index i = end - i
 
--- src/lib.rt:56:15
 add-end : tie.Need-add-end Inv-loop μ-loop
 add-end c = search needs
 
--- src/lib.rt:57:5
 loop-holds : tie.Need-loop-holds Inv-loop μ-loop
-loop-holds c = (refl, ((c .args) .count, refl, refl))
+loop-holds c = (refl, (c .args .count, refl, refl))
 
--- src/lib.rt:58:9
 mul-index : tie.Need-mul-index Inv-loop μ-loop
 mul-index c = omega arith
 
--- src/lib.rt:58:9
 slice-write-index : tie.Need-slice-write-index Inv-loop μ-loop
 slice-write-index c = omega arith
 
--- src/lib.rt:59:9
 add-i : tie.Need-add-i Inv-loop μ-loop
 add-i c = omega arith
 
--- src/lib.rt:57:5
 loop-less : tie.Need-loop-less Inv-loop μ-loop
 loop-less c = omega arith
 
--- src/lib.rt:57:5
 loop-again : tie.Need-loop-again Inv-loop μ-loop
-loop-again c = (length-set ((c .before .loop) .index) ((c .before .loop) .i) 0 ∙ (c .before .loop) .inv .0, row-more _ _ _ _ ((c .loop-test) .taken) ((c .before .loop) .inv .1))
+loop-again c = (length-set (c .before .loop .index) (c .before .loop .i) 0 ∙ c .before .loop .inv .0, row-more _ _ _ _ (c .loop-test .taken) (c .before .loop .inv .1))
 
--- src/lib.rt:51:1
 same-length : tie.Need-same-length Inv-loop μ-loop
-same-length c = (c .before .loop) .inv .0
+same-length c = c .before .loop .inv .0
 
--- src/lib.rt:51:1
 returns : tie.Need-returns Inv-loop μ-loop
-returns c = row-done _ _ _ _ ((c .loop-test) .left) ((c .before .loop) .inv .1)
+returns c = row-done _ _ _ _ (c .loop-test .left) (c .before .loop .inv .1)
 
 pub clear-spec : {M : Type 1} → statement M
 clear-spec =

@@ -1,32 +1,25 @@
+-- `sheets::complete` meets its contract: by whether a pair is missing.
 use Rattle.sheets.proofs.Gaps.{complete-accepts, complete-refuses}
 use Rattle.sheets.specs.Scan.{gapOf}
 use mathlib.Core.Path.{sym, ap, _∙_}
 use borrow.Author.Needs.{needs}
 use Rattle.sheets.proofs.complete.Statement.{statement}
 use Rattle.sheets.proofs.complete.Tie as tie
-use Rattle.sheets.proofs.complete.Reads as reads
-use Rattle.sheets.proofs.complete.Lts as lts
-use Rattle.sheets.proofs.first_gap.Reads as first-gap-reads
 
--- src/lib.rt:272:26
 first-gap-requires : tie.Need-first-gap-requires
 first-gap-requires c κs = search needs
 
--- src/lib.rt:272:17
 enum-known-place : tie.Need-enum-known-place
 enum-known-place c = search needs
 
--- src/lib.rt:273:9
 enum-told : tie.Need-enum-told
 enum-told c = search needs
 
--- src/lib.rt:273:9
 returns : tie.Need-returns
-returns c = complete-accepts _ _ _ (sym (ap gapOf ((c .enum-told) .given .1)) ∙ (c .before .before .first-gap) .ensures)
+returns c = complete-accepts _ _ _ (sym (ap gapOf (c .enum-told .given .1)) ∙ c .before .before .first-gap .ensures)
 
--- src/lib.rt:267:1
 returns-2 : tie.Need-returns-2
-returns-2 c = complete-refuses _ _ _ _ (sym (ap gapOf ((c .before .place) .given .1)) ∙ (c .before .before .before .first-gap) .ensures)
+returns-2 c = complete-refuses _ _ _ _ (sym (ap gapOf (c .before .place .given .1)) ∙ c .before .before .before .first-gap .ensures)
 
 pub complete-spec : {M : Type 1} → statement M
 complete-spec =

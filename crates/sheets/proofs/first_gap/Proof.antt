@@ -1,3 +1,4 @@
+-- `sheets::first_gap` meets its contract. The loop's invariant: what is left of the pass from here on is all of it.
 use Rattle.sheets.proofs.Gaps.{Rest, all-done, all-misses, all-has}
 use Rattle.sheets.specs.Scan.{gapOf}
 use native.Mathlib.Omega.{arith}
@@ -6,9 +7,6 @@ use mathlib.Core.Path.{refl, sym, ap, _∙_}
 use borrow.Author.Needs.{needs}
 use Rattle.sheets.proofs.first_gap.Statement.{statement}
 use Rattle.sheets.proofs.first_gap.Tie as tie
-use Rattle.sheets.proofs.first_gap.Reads as reads
-use Rattle.sheets.proofs.first_gap.Lts as lts
-use Rattle.sheets.proofs.gap_of_node.Reads as gap-of-node-reads
 
 abbrev Inv-loop : tie.InvT-loop
 Inv-loop sheet index attributes nodes n₀ n = (n ≤ nodes) × Rest sheet index attributes nodes n
@@ -16,41 +14,32 @@ Inv-loop sheet index attributes nodes n₀ n = (n ≤ nodes) × Rest sheet index
 abbrev μ-loop : tie.MeasureT-loop
 μ-loop sheet index attributes nodes n₀ n = nodes - n
 
--- src/lib.rt:257:5
 loop-holds : tie.Need-loop-holds Inv-loop μ-loop
-loop-holds c = (omega arith, ((c .before .before .args) .nodes, omega arith, refl))
+loop-holds c = (omega arith, (c .before .before .args .nodes, omega arith, refl))
 
--- src/lib.rt:258:30
 gap-of-node-requires : tie.Need-gap-of-node-requires Inv-loop μ-loop
-gap-of-node-requires c κs = (c .before .before .before .before .pre) ((c .before .loop) .n) ((c .loop-test) .taken)
+gap-of-node-requires c κs = (c .before .before .before .before .pre) (c .before .loop .n) (c .loop-test .taken)
 
--- src/lib.rt:258:21
 enum-known-place : tie.Need-enum-known-place Inv-loop μ-loop
 enum-known-place c = search needs
 
--- src/lib.rt:259:13
 enum-told : tie.Need-enum-told Inv-loop μ-loop
 enum-told c = search needs
 
--- src/lib.rt:259:13
 add-n : tie.Need-add-n Inv-loop μ-loop
 add-n c = search needs
 
--- src/lib.rt:257:5
 loop-less : tie.Need-loop-less Inv-loop μ-loop
 loop-less c = omega arith
 
--- src/lib.rt:257:5
 loop-again : tie.Need-loop-again Inv-loop μ-loop
-loop-again c = (omega arith, all-has _ _ _ _ _ ((c .before .before .before .loop-test) .taken) ((c .before .before .before .before .loop) .inv .1) (sym (ap gapOf ((c .enum-told) .given .1)) ∙ (c .before .before .gap-of-node) .ensures))
+loop-again c = (omega arith, all-has _ _ _ _ _ (c .before .before .before .loop-test .taken) (c .before .before .before .before .loop .inv .1) (sym (ap gapOf (c .enum-told .given .1)) ∙ c .before .before .gap-of-node .ensures))
 
--- src/lib.rt:262:9
 returns : tie.Need-returns Inv-loop μ-loop
-returns c = all-misses _ _ _ _ _ _ ((c .before .before .before .before .loop-test) .taken) ((c .before .before .before .before .before .loop) .inv .1) (sym (ap gapOf ((c .before .place) .given .1)) ∙ (c .before .before .before .gap-of-node) .ensures)
+returns c = all-misses _ _ _ _ _ _ (c .before .before .before .before .loop-test .taken) (c .before .before .before .before .before .loop .inv .1) (sym (ap gapOf (c .before .place .given .1)) ∙ c .before .before .before .gap-of-node .ensures)
 
--- src/lib.rt:252:1
 returns-2 : tie.Need-returns-2 Inv-loop μ-loop
-returns-2 c = all-done _ _ _ _ _ ((c .loop-test) .left) ((c .before .loop) .inv .1)
+returns-2 c = all-done _ _ _ _ _ (c .loop-test .left) (c .before .loop .inv .1)
 
 pub first-gap-spec : {M : Type 1} → statement M
 first-gap-spec =

@@ -1,61 +1,47 @@
+-- `sheets::read_attribute` meets its contract: the stops in the order of their numbers.
 use Rattle.sheets.proofs.Commands.{stopped, went-on, attribute-late, attribute-short, attribute-excess, attribute-result, attribute-parameter, attribute-goes-on}
 use borrow.Author.Needs.{needs}
 use Rattle.sheets.proofs.read_attribute.Statement.{statement}
 use Rattle.sheets.proofs.read_attribute.Tie as tie
-use Rattle.sheets.proofs.read_attribute.Reads as reads
-use Rattle.sheets.proofs.read_attribute.Lts as lts
 
--- src/lib.rt:69:9
 returns : tie.Need-returns
-returns c = λ index. stopped (attribute-late _ _ index ((c .if1) .taken))
+returns c = λ index. stopped (attribute-late _ _ index (c .if1 .taken))
 
--- src/lib.rt:71:22
 add-if2 : tie.Need-add-if2
 add-if2 c = search needs
 
--- src/lib.rt:72:9
 returns-2 : tie.Need-returns-2
-returns-2 c = λ index. stopped (attribute-short _ _ index ((c .before .if1) .left) ((c .if2) .taken))
+returns-2 c = λ index. stopped (attribute-short _ _ index (c .before .if1 .left) (c .if2 .taken))
 
--- src/lib.rt:75:9
 returns-3 : tie.Need-returns-3
-returns-3 c = λ index. stopped (attribute-excess _ _ index ((c .before .before .before .if1) .left) ((c .before .before .if2) .left) ((c .if3) .taken))
+returns-3 c = λ index. stopped (attribute-excess _ _ index (c .before .before .before .if1 .left) (c .before .before .if2 .left) (c .if3 .taken))
 
--- src/lib.rt:77:19
 add-if4 : tie.Need-add-if4
 add-if4 c = search needs
 
--- src/lib.rt:77:13
 shared-slice-read-if4 : tie.Need-shared-slice-read-if4
 shared-slice-read-if4 c = search needs
 
--- src/lib.rt:78:9
 returns-4 : tie.Need-returns-4
-returns-4 c = λ index. stopped (attribute-result _ _ index ((c .before .before .before .before .before .if1) .left) ((c .before .before .before .before .if2) .left) ((c .before .before .if3) .left) ((c .if4) .taken))
+returns-4 c = λ index. stopped (attribute-result _ _ index (c .before .before .before .before .before .if1 .left) (c .before .before .before .before .if2 .left) (c .before .before .if3 .left) (c .if4 .taken))
 
--- src/lib.rt:80:19
 add-if5 : tie.Need-add-if5
 add-if5 c = search needs
 
--- src/lib.rt:80:13
 shared-slice-read-if5 : tie.Need-shared-slice-read-if5
 shared-slice-read-if5 c = search needs
 
--- src/lib.rt:81:9
 returns-5 : tie.Need-returns-5
-returns-5 c = λ index. stopped (attribute-parameter _ _ index ((c .before .before .before .before .before .before .before .if1) .left) ((c .before .before .before .before .before .before .if2) .left) ((c .before .before .before .before .if3) .left) ((c .before .before .if4) .left) ((c .if5) .taken))
+returns-5 c = λ index. stopped (attribute-parameter _ _ index (c .before .before .before .before .before .before .before .if1 .left) (c .before .before .before .before .before .before .if2 .left) (c .before .before .before .before .if3 .left) (c .before .before .if4 .left) (c .if5 .taken))
 
--- src/lib.rt:84:13
 add-t5 : tie.Need-add-t5
 add-t5 c = search needs
 
--- src/lib.rt:86:21
 add-t6 : tie.Need-add-t6
 add-t6 c = search needs
 
--- src/lib.rt:63:1
 returns-6 : tie.Need-returns-6
-returns-6 c = λ index. went-on (attribute-goes-on _ _ index ((c .before .before .before .before .before .before .before .before .if1) .left) ((c .before .before .before .before .before .before .before .if2) .left) ((c .before .before .before .before .before .if3) .left) ((c .before .before .before .if4) .left) ((c .before .if5) .left))
+returns-6 c = λ index. went-on (attribute-goes-on _ _ index (c .before .before .before .before .before .before .before .before .if1 .left) (c .before .before .before .before .before .before .before .if2 .left) (c .before .before .before .before .before .if3 .left) (c .before .before .before .if4 .left) (c .before .if5 .left))
 
 pub read-attribute-spec : {M : Type 1} → statement M
 read-attribute-spec =

@@ -1,3 +1,4 @@
+-- `sheets::read_command` meets its contract: each arm knows the command byte.
 use Rattle.sheets.proofs.Commands.{stopped, command-none, command-of-rest, read-as}
 use Rattle.sheets.specs.Scan.{scanAt}
 use Rattle.specs.specs.Sheet.{attribute-command, node-command, figure-command, rule-command, end-command, no-command, commandOf}
@@ -5,83 +6,60 @@ use mathlib.Core.Path.{refl, ap}
 use borrow.Author.Needs.{needs}
 use Rattle.sheets.proofs.read_command.Statement.{statement}
 use Rattle.sheets.proofs.read_command.Tie as tie
-use Rattle.sheets.proofs.read_command.Reads as reads
-use Rattle.sheets.proofs.read_command.Lts as lts
-use Rattle.sheets.proofs.read_attribute.Reads as read-attribute-reads
-use Rattle.sheets.proofs.read_end.Reads as read-end-reads
-use Rattle.sheets.proofs.read_figure.Reads as read-figure-reads
-use Rattle.sheets.proofs.read_node.Reads as read-node-reads
-use Rattle.sheets.proofs.read_rule.Reads as read-rule-reads
 
--- src/lib.rt:214:9
 returns : tie.Need-returns
-returns c = stopped (command-none _ _ _ ((c .if1) .taken))
+returns c = stopped (command-none _ _ _ (c .if1 .taken))
 
--- src/lib.rt:216:19
 shared-slice-read-command : tie.Need-shared-slice-read-command
 shared-slice-read-command c = search needs
 
--- src/lib.rt:218:17
 read-attribute-requires : tie.Need-read-attribute-requires
 read-attribute-requires c κs = search needs
 
--- src/lib.rt:219:17
 read-node-requires : tie.Need-read-node-requires
 read-node-requires c κs = search needs
 
--- src/lib.rt:220:17
 read-figure-requires : tie.Need-read-figure-requires
 read-figure-requires c κs = search needs
 
--- src/lib.rt:221:17
 read-rule-requires : tie.Need-read-rule-requires
 read-rule-requires c κs = search needs
 
--- src/lib.rt:222:17
 read-end-requires : tie.Need-read-end-requires
 read-end-requires c κs = search needs
 
--- src/lib.rt:208:1
 returns-2 : tie.Need-returns-2
 unfolding commandOf scanAt
-returns-2 c = read-as _ _ _ attribute-command ((c .before .before .before .if1) .left) (ap commandOf ((c .before .match) .keys1)) ((c .read-attribute) .ensures _)
+returns-2 c = read-as _ _ _ attribute-command (c .before .before .before .if1 .left) (ap commandOf (c .before .match .keys1)) (c .read-attribute .ensures _)
 
--- src/lib.rt:208:1
 same-length : tie.Need-same-length
 same-length c = search needs
 
--- src/lib.rt:208:1
 returns-3 : tie.Need-returns-3
 unfolding commandOf scanAt
-returns-3 c = read-as _ _ _ node-command ((c .before .before .before .before .before .before .if1) .left) (ap commandOf ((c .before .before .before .before .match) .keys2)) ((c .before .before .read-node) .ensures)
+returns-3 c = read-as _ _ _ node-command (c .before .before .before .before .before .before .if1 .left) (ap commandOf (c .before .before .before .before .match .keys2)) (c .before .before .read-node .ensures)
 
--- src/lib.rt:208:1
 same-length-2 : tie.Need-same-length-2
 same-length-2 c = search needs
 
--- src/lib.rt:208:1
 returns-4 : tie.Need-returns-4
 unfolding commandOf scanAt
-returns-4 c = read-as _ _ _ figure-command ((c .before .before .before .before .before .before .if1) .left) (ap commandOf ((c .before .before .before .before .match) .keys3)) ((c .before .before .read-figure) .ensures)
+returns-4 c = read-as _ _ _ figure-command (c .before .before .before .before .before .before .if1 .left) (ap commandOf (c .before .before .before .before .match .keys3)) (c .before .before .read-figure .ensures)
 
--- src/lib.rt:208:1
 same-length-3 : tie.Need-same-length-3
 same-length-3 c = search needs
 
--- src/lib.rt:208:1
 returns-5 : tie.Need-returns-5
 unfolding commandOf scanAt
-returns-5 c = read-as _ _ _ rule-command ((c .before .before .before .before .before .before .if1) .left) (ap commandOf ((c .before .before .before .before .match) .keys4)) ((c .before .before .read-rule) .ensures)
+returns-5 c = read-as _ _ _ rule-command (c .before .before .before .before .before .before .if1 .left) (ap commandOf (c .before .before .before .before .match .keys4)) (c .before .before .read-rule .ensures)
 
--- src/lib.rt:208:1
 returns-6 : tie.Need-returns-6
 unfolding commandOf scanAt
-returns-6 c = read-as _ _ _ end-command ((c .before .before .before .if1) .left) (ap commandOf ((c .before .match) .keys5)) ((c .read-end) .ensures _)
+returns-6 c = read-as _ _ _ end-command (c .before .before .before .if1 .left) (ap commandOf (c .before .match .keys5)) (c .read-end .ensures _)
 
--- src/lib.rt:208:1
 returns-7 : tie.Need-returns-7
 unfolding scanAt
-returns-7 c = read-as _ _ _ no-command ((c .before .before .if1) .left) (command-of-rest _ ((c .match) .rest)) (stopped refl)
+returns-7 c = read-as _ _ _ no-command (c .before .before .if1 .left) (command-of-rest _ (c .match .rest)) (stopped refl)
 
 pub read-command-spec : {M : Type 1} → statement M
 read-command-spec =

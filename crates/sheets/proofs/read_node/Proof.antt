@@ -1,62 +1,47 @@
+-- `sheets::read_node` meets its contract: the stops in the order of their numbers.
 use Rattle.sheets.proofs.Commands.{stopped, went-on, node-late, node-short, node-excess, node-kind, node-goes-on}
 use borrow.Author.Needs.{needs}
 use Rattle.sheets.proofs.read_node.Statement.{statement}
 use Rattle.sheets.proofs.read_node.Tie as tie
-use Rattle.sheets.proofs.read_node.Reads as reads
-use Rattle.sheets.proofs.read_node.Lts as lts
-use Rattle.sheets.proofs.clear.Reads as clear-reads
 
--- src/lib.rt:97:9
 returns : tie.Need-returns
-returns c = stopped (node-late _ _ _ ((c .if1) .taken))
+returns c = stopped (node-late _ _ _ (c .if1 .taken))
 
--- src/lib.rt:99:22
 add-if2 : tie.Need-add-if2
 add-if2 c = search needs
 
--- src/lib.rt:100:9
 returns-2 : tie.Need-returns-2
-returns-2 c = stopped (node-short _ _ _ ((c .before .if1) .left) ((c .if2) .taken))
+returns-2 c = stopped (node-short _ _ _ (c .before .if1 .left) (c .if2 .taken))
 
--- src/lib.rt:103:9
 returns-3 : tie.Need-returns-3
-returns-3 c = stopped (node-excess _ _ _ ((c .before .before .before .if1) .left) ((c .before .before .if2) .left) ((c .if3) .taken))
+returns-3 c = stopped (node-excess _ _ _ (c .before .before .before .if1 .left) (c .before .before .if2 .left) (c .if3 .taken))
 
--- src/lib.rt:105:19
 add-if4 : tie.Need-add-if4
 add-if4 c = search needs
 
--- src/lib.rt:105:13
 shared-slice-read-if4 : tie.Need-shared-slice-read-if4
 shared-slice-read-if4 c = search needs
 
--- src/lib.rt:106:9
 returns-4 : tie.Need-returns-4
-returns-4 c = stopped (node-kind _ _ _ ((c .before .before .before .before .before .if1) .left) ((c .before .before .before .before .if2) .left) ((c .before .before .if3) .left) ((c .if4) .taken))
+returns-4 c = stopped (node-kind _ _ _ (c .before .before .before .before .before .if1 .left) (c .before .before .before .before .if2 .left) (c .before .before .if3 .left) (c .if4 .taken))
 
--- src/lib.rt:108:18
 mul-clear : tie.Need-mul-clear
 mul-clear c = search needs
 
--- src/lib.rt:108:5
 clear-requires : tie.Need-clear-requires
 clear-requires c κs = search needs
 
--- src/lib.rt:110:13
 add-t6 : tie.Need-add-t6
 add-t6 c = search needs
 
--- src/lib.rt:113:16
 add-t7 : tie.Need-add-t7
 add-t7 c = search needs
 
--- src/lib.rt:91:1
 same-length : tie.Need-same-length
 same-length c = search needs
 
--- src/lib.rt:91:1
 returns-5 : tie.Need-returns-5
-returns-5 c = went-on (node-goes-on _ _ _ ((c .before .before .before .before .before .before .before .before .before .before .before .if1) .left) ((c .before .before .before .before .before .before .before .before .before .before .if2) .left) _ ((c .before .before .before .before .before .before .before .before .if3) .left) ((c .before .before .before .before .before .before .if4) .left) ((c .before .before .before .clear) .ensures))
+returns-5 c = went-on (node-goes-on _ _ _ (c .before .before .before .before .before .before .before .before .before .before .before .if1 .left) (c .before .before .before .before .before .before .before .before .before .before .if2 .left) _ (c .before .before .before .before .before .before .before .before .if3 .left) (c .before .before .before .before .before .before .if4 .left) (c .before .before .before .clear .ensures))
 
 pub read-node-spec : {M : Type 1} → statement M
 read-node-spec =

@@ -1,3 +1,4 @@
+-- `sheets::rule_start` meets its contract: the index has the place of the rule's command.
 use Rattle.sheets.proofs.Lookups.{rule-place, rule-here, number-is}
 use native.Mathlib.Omega.{arith}
 use Prim.Native.Nat.{_+_}
@@ -5,65 +6,48 @@ use mathlib.Core.Path.{ap}
 use borrow.Author.Needs.{needs}
 use Rattle.sheets.proofs.rule_start.Statement.{statement}
 use Rattle.sheets.proofs.rule_start.Tie as tie
-use Rattle.sheets.proofs.rule_start.Reads as reads
-use Rattle.sheets.proofs.rule_start.Lts as lts
-use Rattle.sheets.proofs.wide.Reads as wide-reads
 
--- src/lib.rt:346:24
 mul-wide : tie.Need-mul-wide
 mul-wide c = search needs
 
--- src/lib.rt:346:41
 mul-wide-2 : tie.Need-mul-wide-2
 mul-wide-2 c = search needs
 
--- src/lib.rt:346:24
 add-wide : tie.Need-add-wide
 add-wide c = search needs
 
--- src/lib.rt:346:24
 add-wide-2 : tie.Need-add-wide-2
 add-wide-2 c = search needs
 
--- src/lib.rt:346:18
 shared-slice-read-wide : tie.Need-shared-slice-read-wide
 shared-slice-read-wide c = search needs
 
--- src/lib.rt:346:9
 wide-requires : tie.Need-wide-requires
 wide-requires c κs = search needs
 
--- src/lib.rt:347:19
 mul-result : tie.Need-mul-result
 mul-result c = search needs
 
--- src/lib.rt:347:11
 add-result : tie.Need-add-result
 add-result c = search needs
 
--- src/lib.rt:347:11
 add-result-2 : tie.Need-add-result-2
 add-result-2 c = search needs
 
--- src/lib.rt:347:5
 mul-result-2 : tie.Need-mul-result-2
 mul-result-2 c = search needs
 
--- src/lib.rt:347:5
 shared-slice-read-result : tie.Need-shared-slice-read-result
-shared-slice-read-result c = rule-place _ _ _ _ _ ((c .before .before .before .before .before .pre)) _ ((c .before .wide) .ensures .0)
+shared-slice-read-result c = rule-place _ _ _ _ _ ((c .before .before .before .before .before .pre)) _ (c .before .wide .ensures .0)
 
--- src/lib.rt:347:5
 cast-result : tie.Need-cast-result
-cast-result c = let h = rule-here _ _ _ _ _ ((c .before .before .before .before .before .pre)) _ ((c .before .wide) .ensures .0) in omega arith
+cast-result c = let h = rule-here _ _ _ _ _ ((c .before .before .before .before .before .pre)) _ (c .before .wide .ensures .0) in omega arith
 
--- src/lib.rt:347:5
 add-result-3 : tie.Need-add-result-3
-add-result-3 c = let h = rule-here _ _ _ _ _ ((c .before .before .before .before .before .pre)) _ ((c .before .wide) .ensures .0) in omega arith
+add-result-3 c = let h = rule-here _ _ _ _ _ ((c .before .before .before .before .before .pre)) _ (c .before .wide .ensures .0) in omega arith
 
--- src/lib.rt:342:1
 returns : tie.Need-returns
-returns c = ap (λ m. m + 4) (number-is _ _ _ _ _ ((c .before .before .before .before .before .pre)) _ ((c .before .wide) .ensures .0))
+returns c = ap (λ m. m + 4) (number-is _ _ _ _ _ ((c .before .before .before .before .before .pre)) _ (c .before .wide .ensures .0))
 
 pub rule-start-spec : {M : Type 1} → statement M
 rule-start-spec =

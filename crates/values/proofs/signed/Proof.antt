@@ -1,5 +1,4 @@
 -- `values::signed` meets its contract: below 2^31 a number is itself, and -1 - (2^32 - 1 - w) is what two's complement reads of another.
-use Prim.Native.Nat.{_-_}
 use native.Mathlib.Omega.{arith}
 use mir.Facts.{toZ-pos, toZ-ofZ}
 use mir.Syntax.{w32}
