@@ -89,7 +89,9 @@ impl Engine for Whole {
         question: &[u8],
         budget: u64,
     ) -> Answer {
-        fields(sofretu::ask(sheet, store, kept, question, budget))
+        sofretu::ask(sheet, store, kept, question, budget)
+            .fields()
+            .into()
     }
 }
 
@@ -117,7 +119,10 @@ impl Engine for Lent {
         question: &[u8],
         budget: u64,
     ) -> Answer {
-        fields(self.scratch.ask(sheet, store, kept, question, budget))
+        self.scratch
+            .ask(sheet, store, kept, question, budget)
+            .fields()
+            .into()
     }
 
     fn list(&mut self, case: &Case, each: &mut dyn FnMut(Answer, &[u8])) {
@@ -182,7 +187,7 @@ impl Engine for Sessions {
         let mut lent = Store::from_parts(store.to_vec(), kept);
         let answer = Sheet::check(sheet).and_then(|sheet| {
             let mut session = Session::open(&sheet, &mut lent)?;
-            Ok(fields(session.ask(question, budget)))
+            Ok(session.ask(question, budget).fields().into())
         });
         store.copy_from_slice(lent.bytes());
         answer.unwrap_or_else(|refusal| refused(refusal, kept))
@@ -195,7 +200,7 @@ impl Engine for Sessions {
             for ask in &case.asks {
                 let answer = session.ask(&ask.question, ask.budget);
                 assert_eq!(answer.kept(), session.store().kept());
-                each(fields(answer), session.store().bytes());
+                each(answer.fields().into(), session.store().bytes());
             }
             Ok(())
         });
@@ -207,28 +212,10 @@ impl Engine for Sessions {
     }
 }
 
-fn fields(answer: sofretu::Answer) -> Answer {
-    let [number, place, typ, value, steps, kept] = answer.fields();
-    Answer {
-        number,
-        place,
-        typ,
-        value,
-        steps,
-        kept,
-    }
-}
-
 /// The answer to a question whose sheet or store is refused.
 fn refused(refusal: Refusal, kept: u64) -> Answer {
-    Answer {
-        number: refusal.stop.number().into(),
-        place: refusal.place as i64,
-        typ: 0,
-        value: 0,
-        steps: 0,
-        kept: kept as i64,
-    }
+    let number = refusal.stop.number().into();
+    [number, refusal.place as i64, 0, 0, 0, kept as i64].into()
 }
 
 #[cfg(test)]

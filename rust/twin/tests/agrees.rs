@@ -7,18 +7,6 @@ use oracle::generate;
 use oracle::{compare, Answer, Engine};
 use twin::{Scratch, Sheet, Store};
 
-fn answer(given: twin::Answer) -> Answer {
-    let [number, place, typ, value, steps, kept] = given.fields();
-    Answer {
-        number,
-        place,
-        typ,
-        value,
-        steps,
-        kept,
-    }
-}
-
 /// The twin in scratch that earlier calls have written.
 #[derive(Default)]
 struct Lent(Box<Scratch>);
@@ -32,14 +20,8 @@ impl Engine for Lent {
         question: &[u8],
         budget: u64,
     ) -> Answer {
-        answer(twin::ask_in(
-            sheet,
-            question,
-            store,
-            kept,
-            budget,
-            &mut self.0,
-        ))
+        let given = twin::ask_in(sheet, question, store, kept, budget, &mut self.0);
+        given.fields().into()
     }
 }
 

@@ -149,16 +149,3 @@ pub fn entry(node: u16, attribute: u8, parameter: i32, value: i32) -> Vec<u8> {
     bytes.extend(value.to_le_bytes());
     bytes
 }
-
-/// An answer from its six fields in order.
-pub fn answer(fields: [i64; 6]) -> Answer {
-    let [number, place, typ, value, steps, kept] = fields;
-    Answer {
-        number,
-        place,
-        typ,
-        value,
-        steps,
-        kept,
-    }
-}
