@@ -7,7 +7,6 @@ mod library;
 mod measure;
 mod programs;
 mod rows;
-mod write;
 
 use std::process::ExitCode;
 use std::time::Duration;
