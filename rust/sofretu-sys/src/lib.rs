@@ -2,6 +2,8 @@
 //!
 //! A call reads what a slice spans and writes what it is lent as `&mut`; the borrows give it that for as long as it runs. It asks
 //! nothing of what lent memory holds, unless its function says so. For safe types over these calls see the crate `sofretu`.
+#![deny(unsafe_op_in_unsafe_fn)]
+#![warn(missing_docs)]
 
 /// The length of a sheet's index.
 pub const INDEX: usize = 33_280;
