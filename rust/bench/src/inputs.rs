@@ -1,15 +1,17 @@
 //! The inputs of the rows, made in code and without chance. A question of many steps is made of few bytes by attributes
 //! that ask the same again, on nodes or with parameters that the store has not kept.
 
+use oracle::write::*;
+
 use crate::programs::Input;
-use crate::write::*;
 
 /// Codes of types.
 const UNIT_TYPE: u8 = 0;
 const INT_TYPE: u8 = 2;
 const NODE_TYPE: u8 = 3;
 
-const NULL: i32 = 65_535;
+/// Null as a figure.
+const NULL_FIGURE: i32 = 65_535;
 
 /// A store with nothing kept.
 fn empty(capacity: usize) -> Vec<u8> {
@@ -18,35 +20,20 @@ fn empty(capacity: usize) -> Vec<u8> {
 
 /// Sheet L of document 01, with D, the dial of node 1, and an empty store: 8 steps.
 pub fn sheet_l() -> Input {
-    const UP: u8 = 0;
-    const OWN: u8 = 1;
-    const DIAL: u8 = 2;
-    let own = of(&THIS, OWN, &UNIT);
-    let inherited = of(&of(&THIS, UP, &UNIT), DIAL, &UNIT);
-    let dial = if_else(&binary(EQUAL, &own, &int(0)), &inherited, &own);
-    let sheet = [
-        attribute(NODE_TYPE, UNIT_TYPE),
-        attribute(INT_TYPE, UNIT_TYPE),
-        attribute(INT_TYPE, UNIT_TYPE),
-        node(0),
-        node(1),
-        node(1),
-        figure(0, UP, NULL),
-        figure(0, OWN, 700),
-        figure(1, UP, 0),
-        figure(1, OWN, 0),
-        figure(2, UP, 0),
-        figure(2, OWN, 811),
-        rule(0, DIAL, &own),
-        rule(1, DIAL, &dial),
-        END.to_vec(),
-    ];
     Input {
-        sheet: sheet.concat(),
-        question: of(&node_literal(1), DIAL, &UNIT),
+        sheet: oracle::write::sheet_l(),
+        question: d(),
         store: empty(1_024),
         kept: 0,
     }
+}
+
+/// The sum of some parts, of which there is one at least.
+fn sum(parts: impl IntoIterator<Item = Vec<u8>>) -> Vec<u8> {
+    parts
+        .into_iter()
+        .reduce(|sum, part| binary(ADD, &sum, &part))
+        .expect("a sum has a part")
 }
 
 /// The nodes of a chain: its head and 60 more.
@@ -63,7 +50,11 @@ fn end_of_chain(chain: u16) -> Vec<u8> {
 pub fn chains() -> Input {
     let nodes = 0..CHAINS * CHAIN;
     let figures = nodes.clone().flat_map(|number| match number % CHAIN {
-        0 => [figure(number, 0, NULL), figure(number, 1, number.into())].concat(),
+        0 => [
+            figure(number, 0, NULL_FIGURE),
+            figure(number, 1, number.into()),
+        ]
+        .concat(),
         _ => figure(number, 0, i32::from(number) - 1),
     });
     let sheet = [
@@ -72,7 +63,7 @@ pub fn chains() -> Input {
         node(0).repeat(nodes.len()),
         figures.collect(),
         rule(0, 1, &of(&of(&THIS, 0, &UNIT), 1, &UNIT)),
-        END.to_vec(),
+        end(),
     ];
     Input {
         sheet: sheet.concat(),
@@ -105,7 +96,7 @@ pub fn hops(capacity: usize) -> Input {
             .flat_map(|number| figure(number, 0, ((number + 7) % RING).into()))
             .collect(),
         (1..=LAST).flat_map(|k| rule(0, k, &twice(k))).collect(),
-        END.to_vec(),
+        end(),
     ];
     let asked: &[u8] = match capacity {
         0 => &[LAST - 3, LAST - 2, LAST - 1],
@@ -126,7 +117,7 @@ pub fn hops(capacity: usize) -> Input {
 pub fn branches() -> Input {
     let choice = |i: i32| {
         if_else(
-            &not(&binary(LE, &PARAMETER, &int(3 * i))),
+            &apply(&function(NOT), &binary(LE, &PARAMETER, &int(3 * i))),
             &binary(SUBTRACT, &PARAMETER, &int(i)),
             &binary(ADD, &PARAMETER, &int(i)),
         )
@@ -139,7 +130,7 @@ pub fn branches() -> Input {
         rule(0, 0, &work),
         rule(0, 1, &often(0)),
         rule(0, 2, &often(1)),
-        END.to_vec(),
+        end(),
     ];
     Input {
         sheet: sheet.concat(),
@@ -163,7 +154,7 @@ pub fn parameterised() -> Input {
         attribute(INT_TYPE, INT_TYPE),
         node(0).repeat(NODES.into()),
         rule(0, 0, &fibonacci),
-        END.to_vec(),
+        end(),
     ];
     Input {
         sheet: sheet.concat(),
@@ -192,14 +183,14 @@ pub fn sized(size: usize) -> Input {
     let mut sheet = declared.concat();
     sheet.extend(pairs.flat_map(|(number, a)| figure(number, a, value(number, a))));
     let rules = usize::from(kinds) * usize::from(RULES);
-    let left = size - sheet.len() - END.len() - 5 * rules;
+    let left = size - sheet.len() - end().len() - 5 * rules;
     for number in 0..rules {
         let length = left / rules + usize::from(number < left % rules);
         let kind = (number / usize::from(RULES)) as u8;
         let attribute = FIGURES + (number % usize::from(RULES)) as u8;
         sheet.extend(rule(kind, attribute, &int_of_length(length)));
     }
-    sheet.extend(END);
+    sheet.extend(end());
     assert_eq!(sheet.len(), size);
     Input {
         sheet,

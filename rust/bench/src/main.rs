@@ -7,10 +7,11 @@ mod library;
 mod measure;
 mod programs;
 mod rows;
-mod write;
 
 use std::process::ExitCode;
 use std::time::Duration;
+
+use oracle::commands::ended;
 
 use measure::{measure, Effort};
 use programs::{Engine, Input, Oracle, Program, Twin, Work};
@@ -33,21 +34,11 @@ const QUICK: Effort = Effort {
 fn main() -> ExitCode {
     let arguments: Vec<String> = std::env::args().skip(1).collect();
     let words: Vec<&str> = arguments.iter().map(String::as_str).collect();
-    let effort = match words[..] {
-        [] => THOROUGH,
-        ["--quick"] => QUICK,
-        _ => {
-            eprintln!("{USAGE}");
-            return ExitCode::FAILURE;
-        }
-    };
-    match print_table(&effort) {
-        Ok(()) => ExitCode::SUCCESS,
-        Err(message) => {
-            eprintln!("{message}");
-            ExitCode::FAILURE
-        }
-    }
+    ended(match words[..] {
+        [] => print_table(&THOROUGH),
+        ["--quick"] => print_table(&QUICK),
+        _ => Err(USAGE.into()),
+    })
 }
 
 fn print_table(effort: &Effort) -> Result<(), String> {

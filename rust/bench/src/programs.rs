@@ -90,8 +90,9 @@ impl Program for Engine {
                 let mut store = sheet.lend(lent, input.kept).expect(CHECKED);
                 timed(runs, || store.ask(question, BUDGET))
             }
-            Work::Ask => timed(runs, || {
-                library::ask(sheet, question, lent, input.kept, BUDGET)
+            // SAFETY: the programs run on the main thread, whose stack has more than the call needs.
+            Work::Ask => timed(runs, || unsafe {
+                sofretu_sys::ask(sheet, question, lent, input.kept, BUDGET)
             }),
             Work::AskIn => timed(runs, || {
                 scratch.ask(sheet, question, lent, input.kept, BUDGET)
@@ -183,8 +184,7 @@ pub struct Oracle;
 
 impl Program for Oracle {
     fn run(&mut self, work: Work, input: &Input, runs: u32) -> (Duration, Outcome) {
-        use oracle::ask::{ask, read_question};
-        use oracle::caching::evaluate;
+        use oracle::ask::{ask, ask_admitted, read_question};
         use oracle::sheet::Sheet;
         use oracle::stop::Stop;
         use oracle::store::Store;
@@ -194,15 +194,7 @@ impl Program for Oracle {
         let refused = |stop: Stop| stopped(stop.reason as i64, stop.place as i64);
         let put = |sheet: &Sheet, store: &mut Store| {
             let question = read_question(black_box(question), sheet).expect(CHECKED);
-            let (ending, steps) = evaluate(sheet, store, &question, BUDGET);
-            let [number, typ, value] = match ending {
-                Ok(value) => {
-                    let base = value.base().expect("a question is of base type");
-                    [0, base.code().into(), value.number()]
-                }
-                Err(reason) => [reason as i64, 0, 0],
-            };
-            [number, 0, typ, value, steps as i64, store.kept() as i64]
+            ask_admitted(sheet, store, &question, BUDGET).fields()
         };
         let (time, fields) = match work {
             Work::Question => {
@@ -218,15 +210,7 @@ impl Program for Oracle {
                 timed(runs, || put(&sheet, &mut store))
             }
             Work::Ask | Work::AskIn => timed(runs, || {
-                let given = ask(black_box(sheet), lent, input.kept, question, BUDGET);
-                [
-                    given.number,
-                    given.place,
-                    given.typ,
-                    given.value,
-                    given.steps,
-                    given.kept,
-                ]
+                ask(black_box(sheet), lent, input.kept, question, BUDGET).fields()
             }),
             Work::CheckSheet => timed(runs, || match Sheet::read(black_box(sheet)) {
                 Ok(sheet) => accepted(sheet.attributes().len() as i64, sheet.node_count() as i64),

@@ -2,7 +2,7 @@
 //! the engine's own answers against plain Saiga.
 #![forbid(unsafe_code)]
 
-use oracle::compare::Counts;
+use oracle::compare::{compare_check, Counts};
 use oracle::engine::ask_each;
 use oracle::{Answer, Ask, Case, Engine};
 use sofretu::{Refusal, Scratch, Session, Sheet, Store, MOST_STEPS};
@@ -32,7 +32,7 @@ impl Ways {
             counts =
                 oracle::compare(engine, case).map_err(|differs| format!("{name}: {differs}"))?;
         }
-        self.check_agrees(case)?;
+        compare_check(check, case).map_err(|differs| format!("sofretu_check: {differs}"))?;
         Ok(counts)
     }
 
@@ -46,34 +46,12 @@ impl Ways {
         }
         Ok(counts)
     }
+}
 
-    /// `sofretu_check` finds the stops from 1 to 13 that the calls answer with, and no other.
-    fn check_agrees(&mut self, case: &Case) -> Result<(), String> {
-        let mut store = case.store.clone();
-        let mut kept = case.kept;
-        let mut asks = case.asks.iter().enumerate();
-        let mut differs = Ok(());
-        self.whole.list(case, &mut |answer, left| {
-            let (question, ask) = asks.next().expect("an answer to each question");
-            let checked = sofretu::check(&case.sheet, &store, kept, &ask.question, ask.budget);
-            let checked = checked.map_err(|refusal| {
-                let number = i64::from(refusal.stop.number());
-                (number, refusal.place as i64)
-            });
-            let expected = match answer.number {
-                1..=13 => Err((answer.number, answer.place)),
-                _ => Ok(()),
-            };
-            if checked != expected && differs.is_ok() {
-                differs = Err(format!(
-                    "sofretu_check: question {question}: {checked:?} where the answer is {answer}"
-                ));
-            }
-            store.copy_from_slice(left);
-            kept = answer.kept as u64;
-        });
-        differs
-    }
+/// `sofretu_check`, for `compare_check`.
+fn check(sheet: &[u8], store: &[u8], kept: u64, ask: &Ask) -> Result<(), (i64, i64)> {
+    sofretu::check(sheet, store, kept, &ask.question, ask.budget)
+        .map_err(|refusal| (refusal.stop.number().into(), refusal.place as i64))
 }
 
 /// Every question with all its checks and its scratch on the stack.
@@ -89,7 +67,9 @@ impl Engine for Whole {
         question: &[u8],
         budget: u64,
     ) -> Answer {
-        fields(sofretu::ask(sheet, store, kept, question, budget))
+        sofretu::ask(sheet, store, kept, question, budget)
+            .fields()
+            .into()
     }
 }
 
@@ -117,7 +97,10 @@ impl Engine for Lent {
         question: &[u8],
         budget: u64,
     ) -> Answer {
-        fields(self.scratch.ask(sheet, store, kept, question, budget))
+        self.scratch
+            .ask(sheet, store, kept, question, budget)
+            .fields()
+            .into()
     }
 
     fn list(&mut self, case: &Case, each: &mut dyn FnMut(Answer, &[u8])) {
@@ -182,7 +165,7 @@ impl Engine for Sessions {
         let mut lent = Store::from_parts(store.to_vec(), kept);
         let answer = Sheet::check(sheet).and_then(|sheet| {
             let mut session = Session::open(&sheet, &mut lent)?;
-            Ok(fields(session.ask(question, budget)))
+            Ok(session.ask(question, budget).fields().into())
         });
         store.copy_from_slice(lent.bytes());
         answer.unwrap_or_else(|refusal| refused(refusal, kept))
@@ -195,7 +178,7 @@ impl Engine for Sessions {
             for ask in &case.asks {
                 let answer = session.ask(&ask.question, ask.budget);
                 assert_eq!(answer.kept(), session.store().kept());
-                each(fields(answer), session.store().bytes());
+                each(answer.fields().into(), session.store().bytes());
             }
             Ok(())
         });
@@ -207,28 +190,10 @@ impl Engine for Sessions {
     }
 }
 
-fn fields(answer: sofretu::Answer) -> Answer {
-    let [number, place, typ, value, steps, kept] = answer.fields();
-    Answer {
-        number,
-        place,
-        typ,
-        value,
-        steps,
-        kept,
-    }
-}
-
 /// The answer to a question whose sheet or store is refused.
 fn refused(refusal: Refusal, kept: u64) -> Answer {
-    Answer {
-        number: refusal.stop.number().into(),
-        place: refusal.place as i64,
-        typ: 0,
-        value: 0,
-        steps: 0,
-        kept: kept as i64,
-    }
+    let number = refusal.stop.number().into();
+    [number, refusal.place as i64, 0, 0, 0, kept as i64].into()
 }
 
 #[cfg(test)]

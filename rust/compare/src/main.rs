@@ -3,7 +3,7 @@
 use std::process::ExitCode;
 
 use compare::Ways;
-use oracle::commands::{replay, run, vectors};
+use oracle::commands::{ended, replay, run, vectors};
 use oracle::Oracle;
 
 const USAGE: &str = "usage: compare vectors FILE | run LISTS SEED | replay FILE";
@@ -25,11 +25,5 @@ fn main() -> ExitCode {
         }
         _ => Err(USAGE.into()),
     };
-    match done {
-        Ok(()) => ExitCode::SUCCESS,
-        Err(message) => {
-            eprintln!("{message}");
-            ExitCode::FAILURE
-        }
-    }
+    ended(done)
 }

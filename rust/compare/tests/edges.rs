@@ -1,19 +1,8 @@
 //! The proved calls at the edges of their input, against the second evaluator.
 
 use compare::Ways;
+use oracle::write::{d, sheet_l};
 use oracle::{Ask, Case, Oracle};
-
-/// Sheet L of document 01.
-const SHEET_L: &str = "4103004102004102004e004e014e0156000000ffff000056000001bc02000056010000000000005601000100000000\
-     5602000000000000560200012b0300005200020400220130105201021900202121140122013010120000000022022200301010220130105a";
-
-const D: [u8; 6] = [0x22, 2, 0x13, 1, 0, 0x10];
-
-fn sheet_l() -> Vec<u8> {
-    (0..SHEET_L.len() / 2)
-        .map(|i| u8::from_str_radix(&SHEET_L[2 * i..2 * i + 2], 16).expect("two digits"))
-        .collect()
-}
 
 /// The stop from 1 to 13 that both say of a call, or none. All else of their answers, and the store, must be the same too.
 fn verdict(
@@ -84,7 +73,7 @@ fn every_single_byte_of_sheet_l_changed() {
         for byte in 0..=255 {
             let mut changed = sheet.clone();
             changed[at] = byte;
-            verdict(&changed, &D, &[0; 24], 0, 10);
+            verdict(&changed, &d(), &[0; 24], 0, 10);
         }
     }
 }
@@ -169,13 +158,13 @@ fn questions_and_stores_at_their_limits() {
     assert_eq!(verdict(&sheet, &le4, &[], 0, 0), Some((13, 0)));
     for budget in [0, 999_999, 1_000_000, 1_000_001, u64::MAX] {
         let expected = (budget > 1_000_000).then_some((11, 0));
-        assert_eq!(verdict(&sheet, &D, &[], 0, budget), expected);
+        assert_eq!(verdict(&sheet, &d(), &[], 0, budget), expected);
     }
     for length in [0, 11, 12, 13, 12_276, 12_288, 12_289, 12_300] {
         for kept in [0, 1, 2, 1023, 1024, 1025, u64::MAX] {
-            verdict(&sheet, &D, &vec![0; length], kept, 0);
+            verdict(&sheet, &d(), &vec![0; length], kept, 0);
         }
     }
     // A full store of one entry again and again: the second is a duplicate.
-    assert_eq!(verdict(&sheet, &D, &[0; 12_288], 1024, 0), Some((10, 1)));
+    assert_eq!(verdict(&sheet, &d(), &[0; 12_288], 1024, 0), Some((10, 1)));
 }

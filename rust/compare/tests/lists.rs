@@ -1,8 +1,11 @@
-//! Lists of questions put in every way to the proved engine, against what the vectors say and what the second evaluator says.
+//! Lists of questions put in every way to the proved engine, against what the vectors, the page of stops and the second
+//! evaluator say.
 
 use compare::Ways;
 use oracle::case::read_lists;
+use oracle::examples::read_examples;
 use oracle::soak::soak;
+use oracle::write::*;
 use oracle::{Ask, Case, Oracle};
 
 #[test]
@@ -13,6 +16,18 @@ fn the_vectors_agree() {
     for listed in lists {
         for (name, engine) in ways.all() {
             assert_eq!(listed.case.clone().answered(engine), listed, "{name}");
+        }
+    }
+}
+
+#[test]
+fn the_examples_of_the_stops_page_agree() {
+    let page = include_str!("../../../docs/STOPS.md");
+    let mut ways = Ways::default();
+    for example in read_examples(page).expect("the page's form") {
+        for (name, engine) in ways.all() {
+            let answered = example.case.clone().answered(engine);
+            assert_eq!(answered.answers, example.answers, "{name}");
         }
     }
 }
@@ -40,35 +55,26 @@ fn generated_lists_agree() {
 }
 
 /// One node and an Int attribute: the number of steps down from its parameter to 0.
-const COUNTDOWN: [u8; 45] = [
-    0x41, 2, 2, // the attribute
-    0x4E, 0, // the node
-    0x52, 0, 0, 34, 0, // the rule
-    0x20, 0x21, 0x21, 0x14, 0, 0x31, 0x12, 0, 0, 0, 0,    // IF le(0x31)(0)
-    0x31, // THEN 0x31
-    0x21, 0x21, 0x14, 4, 0x12, 1, 0, 0, 0, // ELSE add(1)(..
-    0x22, 0, 0x30, 0x21, 0x21, 0x14, 5, 0x31, 0x12, 1, 0, 0,
-    0, // ..the attribute of subtract(0x31)(1))
-    0x5A,
-];
+fn countdown() -> Vec<u8> {
+    let before = of(&THIS, 0, &binary(SUBTRACT, &PARAMETER, &int(1)));
+    let further = binary(ADD, &int(1), &before);
+    let steps = if_else(&binary(LE, &PARAMETER, &int(0)), &PARAMETER, &further);
+    [attribute(2, 2), node(0), rule(0, 0, &steps), end()].concat()
+}
 
 #[test]
 fn stores_of_every_capacity_are_filled_alike() {
     // Each question goes 60 further than the one before, which is too deep once the store is full.
     let asks: Vec<Ask> = (0..=18i32)
-        .map(|time| {
-            let mut question = vec![0x22, 0, 0x13, 0, 0, 0x12];
-            question.extend((60 * time).to_le_bytes());
-            Ask {
-                budget: 1_000_000,
-                question,
-            }
+        .map(|time| Ask {
+            budget: 1_000_000,
+            question: of(&node_literal(0), 0, &int(60 * time)),
         })
         .collect();
     let mut ways = Ways::default();
     for capacity in 0..=1_024 {
         let case = Case {
-            sheet: COUNTDOWN.to_vec(),
+            sheet: countdown(),
             store: vec![0xEE; 12 * capacity],
             kept: 0,
             asks: asks.clone(),

@@ -23,13 +23,37 @@ pub struct Answer {
     pub kept: i64,
 }
 
+impl Answer {
+    /// The fields in their order.
+    pub fn fields(&self) -> [i64; 6] {
+        [
+            self.number,
+            self.place,
+            self.typ,
+            self.value,
+            self.steps,
+            self.kept,
+        ]
+    }
+}
+
+impl From<[i64; 6]> for Answer {
+    fn from([number, place, typ, value, steps, kept]: [i64; 6]) -> Answer {
+        Answer {
+            number,
+            place,
+            typ,
+            value,
+            steps,
+            kept,
+        }
+    }
+}
+
 impl fmt::Display for Answer {
     fn fmt(&self, f: &mut fmt::Formatter) -> fmt::Result {
-        write!(
-            f,
-            "{} {} {} {} {} {}",
-            self.number, self.place, self.typ, self.value, self.steps, self.kept
-        )
+        let [number, place, typ, value, steps, kept] = self.fields();
+        write!(f, "{number} {place} {typ} {value} {steps} {kept}")
     }
 }
 
@@ -51,11 +75,15 @@ pub fn ask_accepted(
     question: &[u8],
     budget: u64,
 ) -> Answer {
-    let (mut store, question) = match admit(sheet, store, kept, question, budget) {
-        Ok(admitted) => admitted,
-        Err(stop) => return refusal(stop, kept),
-    };
-    let (ending, steps) = caching::evaluate(sheet, &mut store, &question, budget);
+    match admit(sheet, store, kept, question, budget) {
+        Ok((mut store, question)) => ask_admitted(sheet, &mut store, &question, budget),
+        Err(stop) => refusal(stop, kept),
+    }
+}
+
+/// As `ask`, for a sheet, a store, a question and a budget that none of stops 1 to 13 holds of.
+pub fn ask_admitted(sheet: &Sheet, store: &mut Store, question: &Expr, budget: u64) -> Answer {
+    let (ending, steps) = caching::evaluate(sheet, store, question, budget);
     let (number, typ, value) = match ending {
         Ok(value) => {
             let base = value.base().expect("a question is of base type");

@@ -1,6 +1,7 @@
 //! What the programs over engines share: files of lists, generated runs, and a list shown step by step.
 
 use std::fs;
+use std::process::ExitCode;
 
 use crate::ask::read_question;
 use crate::case::{read_lists, Case, Listed};
@@ -108,5 +109,16 @@ pub fn replay(engines: &mut [Named], file: &str) -> Result<(), String> {
     match bad {
         0 => Ok(()),
         _ => Err(format!("{bad} failings")),
+    }
+}
+
+/// The end of a program: a message says what went wrong.
+pub fn ended(done: Result<(), String>) -> ExitCode {
+    match done {
+        Ok(()) => ExitCode::SUCCESS,
+        Err(message) => {
+            eprintln!("{message}");
+            ExitCode::FAILURE
+        }
     }
 }

@@ -4,7 +4,7 @@ use std::collections::{BTreeMap, BTreeSet};
 use std::fmt;
 
 use crate::ask::Answer;
-use crate::case::Case;
+use crate::case::{Ask, Case};
 use crate::engine::{Engine, Oracle};
 use crate::store::{ENTRY, MOST_ENTRIES};
 
@@ -135,4 +135,30 @@ pub fn compare<E: Engine + ?Sized>(engine: &mut E, case: &Case) -> Result<Counts
             Ok(counts)
         }
     }
+}
+
+/// Puts a list to a call that checks and does not run. It must find the stops from 1 to 13 that the oracle answers with, each with its
+/// number and place, and no other.
+pub fn compare_check(
+    mut check: impl FnMut(&[u8], &[u8], u64, &Ask) -> Result<(), (i64, i64)>,
+    case: &Case,
+) -> Result<(), String> {
+    let mut oracle = Oracle::default();
+    let mut store = case.store.clone();
+    let mut kept = case.kept;
+    for (number, ask) in case.asks.iter().enumerate() {
+        let checked = check(&case.sheet, &store, kept, ask);
+        let answer = oracle.ask(&case.sheet, &mut store, kept, &ask.question, ask.budget);
+        let expected = match answer.number {
+            1..=13 => Err((answer.number, answer.place)),
+            _ => Ok(()),
+        };
+        if checked != expected {
+            return Err(format!(
+                "question {number}: the check says {checked:?}, the oracle's answer is {answer}"
+            ));
+        }
+        kept = answer.kept as u64;
+    }
+    Ok(())
 }

@@ -20,6 +20,7 @@ pub mod soak;
 pub mod stop;
 pub mod store;
 pub mod values;
+pub mod write;
 
 pub use ask::{ask, Answer};
 pub use case::{Ask, Case};

@@ -2,7 +2,7 @@
 
 use std::process::ExitCode;
 
-use oracle::commands::{replay, run, vectors};
+use oracle::commands::{ended, replay, run, vectors};
 use oracle::{demand3, Oracle};
 
 const USAGE: &str = "usage: oracle vectors FILE | self CASES SEED | replay FILE";
@@ -22,11 +22,5 @@ fn main() -> ExitCode {
         ["replay", file] => replay(&mut [("the oracle", &mut oracle)], file),
         _ => Err(USAGE.into()),
     };
-    match done {
-        Ok(()) => ExitCode::SUCCESS,
-        Err(message) => {
-            eprintln!("{message}");
-            ExitCode::FAILURE
-        }
-    }
+    ended(done)
 }

@@ -1,106 +1,24 @@
-//! The library's C calls and the types that keep what they require. All of the crate's `unsafe` is here.
+//! The types that keep what the library's calls require. All of the crate's `unsafe` is here.
 //!
-//! The library reads what a slice spans and writes what it is lent as `&mut`, which the borrows below give it for as long as it
-//! runs. Two of its calls require more, and the private fields of [`Sheet`] and [`Session`] are how they get it:
+//! The borrows give a call what it reads and writes. Two calls require more, and the private fields of [`Sheet`] and [`Session`] are
+//! how they get it:
 //!
-//! - `sofretu_check_store` takes the number of attributes of a sheet that has at least three bytes for each;
-//! - `sofretu_ask_checked` takes the sheet's index as the sheet's check left it, and the store's index as the store's check or
-//!   the question before left it, for these same bytes and this same number kept.
+//! - `check_store` takes the number of attributes of an accepted sheet;
+//! - `ask_checked` takes the sheet's index as the sheet's check left it, and the store's index as the store's check or the question
+//!   before left it, for these same bytes and this same number kept.
+//!
+//! Two have their scratch on the stack, which is reached for before.
 #![allow(unsafe_code)]
 
 use std::fmt;
 use std::hint::black_box;
 use std::mem::MaybeUninit;
 
+use sofretu_sys::{FORMS, FRAMES, INDEX, LINKS};
+
 use crate::answer::Answer;
 use crate::stop::{Refusal, Stop};
 use crate::store::Store;
-
-// The lengths of the arrays that the calls are lent.
-const INDEX: usize = 33_280;
-const LINKS: usize = 2_048;
-const FRAMES: usize = 16_640;
-const FORMS: usize = 256;
-
-// As `crates/sofretu/src/lib.rt` exports them and `include/sofretu.h` declares them.
-extern "C" {
-    fn sofretu_ask(
-        sheet: *const u8,
-        sheet_len: usize,
-        question: *const u8,
-        question_len: usize,
-        store: *mut u8,
-        store_len: usize,
-        kept: u64,
-        budget: u64,
-        answer: *mut [i64; 6],
-    );
-
-    fn sofretu_ask_in(
-        sheet: *const u8,
-        sheet_len: usize,
-        question: *const u8,
-        question_len: usize,
-        store: *mut u8,
-        store_len: usize,
-        kept: u64,
-        budget: u64,
-        index: *mut [u32; INDEX],
-        links: *mut [u32; LINKS],
-        frames: *mut [u64; FRAMES],
-        forms: *mut [u32; FORMS],
-        answer: *mut [i64; 6],
-    );
-
-    fn sofretu_check_sheet(
-        sheet: *const u8,
-        sheet_len: usize,
-        index: *mut [u32; INDEX],
-        found: *mut [u64; 3],
-    ) -> u32;
-
-    fn sofretu_check_store(
-        sheet: *const u8,
-        sheet_len: usize,
-        attributes: u64,
-        nodes: u64,
-        store: *const u8,
-        store_len: usize,
-        kept: u64,
-        links: *mut [u32; LINKS],
-        place: *mut u64,
-    ) -> u32;
-
-    fn sofretu_ask_checked(
-        sheet: *const u8,
-        sheet_len: usize,
-        attributes: u64,
-        nodes: u64,
-        index: *const [u32; INDEX],
-        question: *const u8,
-        question_len: usize,
-        store: *mut u8,
-        store_len: usize,
-        kept: u64,
-        budget: u64,
-        links: *mut [u32; LINKS],
-        frames: *mut [u64; FRAMES],
-        forms: *mut [u32; FORMS],
-        answer: *mut [i64; 6],
-    );
-
-    fn sofretu_check(
-        sheet: *const u8,
-        sheet_len: usize,
-        question: *const u8,
-        question_len: usize,
-        store: *const u8,
-        store_len: usize,
-        kept: u64,
-        budget: u64,
-        place: *mut u64,
-    ) -> u32;
-}
 
 /// A sheet that none of stops 1 to 8 holds of, over its borrowed bytes.
 ///
@@ -124,11 +42,7 @@ impl<'a> Sheet<'a> {
     /// Checks a sheet once for all the questions put to it.
     pub fn check(bytes: &'a [u8]) -> Result<Sheet<'a>, Refusal> {
         let mut index = zeros();
-        let mut found = [0; 3];
-        // SAFETY: `bytes` is borrowed for reading, `index` and `found` for writing. Nothing else is required.
-        let number =
-            unsafe { sofretu_check_sheet(bytes.as_ptr(), bytes.len(), &mut *index, &mut found) };
-        let [place, attributes, nodes] = found;
+        let (number, [place, attributes, nodes]) = sofretu_sys::check_sheet(bytes, &mut index);
         verdict(number, place)?;
         Ok(Sheet {
             bytes,
@@ -191,20 +105,15 @@ impl<'s, 'a> Session<'s, 'a> {
     /// Checks the store against the sheet: stops 9 and 10.
     pub fn open(sheet: &'s Sheet<'a>, store: &'s mut Store) -> Result<Session<'s, 'a>, Refusal> {
         let mut links = zeros();
-        let mut place = 0;
-        // SAFETY: the bytes are borrowed for reading, `links` and `place` for writing. The sheet was accepted with this number
-        // of attributes, so it has three bytes for each.
-        let number = unsafe {
-            sofretu_check_store(
-                sheet.bytes.as_ptr(),
-                sheet.bytes.len(),
+        // SAFETY: `attributes` and `nodes` are as the sheet's check found them, in private fields beside the bytes.
+        let (number, place) = unsafe {
+            sofretu_sys::check_store(
+                sheet.bytes,
                 sheet.attributes,
                 sheet.nodes,
-                store.bytes().as_ptr(),
-                store.bytes().len(),
+                store.bytes(),
                 store.kept(),
-                &mut *links,
-                &mut place,
+                &mut links,
             )
         };
         verdict(number, place)?;
@@ -226,30 +135,24 @@ impl<'s, 'a> Session<'s, 'a> {
             ref index,
         } = *self.sheet;
         let (store, kept) = self.store.lend();
-        let mut answer = [0; 6];
-        // SAFETY: all is borrowed, for reading or writing as the call has it. `index`, `attributes` and `nodes` are as the
-        // sheet's check left them, in private fields beside the bytes, which are borrowed for as long as the sheet lives.
-        // `links` is as the store's check or the question before left it: the session alone holds the store's `&mut`, and
-        // writes its bytes and its number kept here only.
-        unsafe {
-            sofretu_ask_checked(
-                bytes.as_ptr(),
-                bytes.len(),
+        // SAFETY: `index`, `attributes` and `nodes` are as the sheet's check left them, in private fields beside the bytes, which
+        // are borrowed for as long as the sheet lives. `links` is as the store's check or the question before left it: the
+        // session alone holds the store's `&mut`, and writes its bytes and its number kept here only.
+        let answer = unsafe {
+            sofretu_sys::ask_checked(
+                bytes,
                 attributes,
                 nodes,
-                &**index,
-                question.as_ptr(),
-                question.len(),
-                store.as_mut_ptr(),
-                store.len(),
+                index,
+                question,
+                store,
                 *kept,
                 budget,
-                &mut *self.links,
-                &mut *self.frames,
-                &mut *self.forms,
-                &mut answer,
-            );
-        }
+                &mut self.links,
+                &mut self.frames,
+                &mut self.forms,
+            )
+        };
         *kept = answer[5] as u64;
         answered(answer)
     }
@@ -304,26 +207,17 @@ impl Scratch {
         question: &[u8],
         budget: u64,
     ) -> Answer {
-        let mut answer = [0; 6];
-        // SAFETY: all is borrowed, for reading or writing as the call has it. Nothing else is required, of the scratch neither.
-        unsafe {
-            sofretu_ask_in(
-                sheet.as_ptr(),
-                sheet.len(),
-                question.as_ptr(),
-                question.len(),
-                store.as_mut_ptr(),
-                store.len(),
-                kept,
-                budget,
-                &mut *self.index,
-                &mut *self.links,
-                &mut *self.frames,
-                &mut *self.forms,
-                &mut answer,
-            );
-        }
-        answered(answer)
+        answered(sofretu_sys::ask_in(
+            sheet,
+            question,
+            store,
+            kept,
+            budget,
+            &mut self.index,
+            &mut self.links,
+            &mut self.frames,
+            &mut self.forms,
+        ))
     }
 }
 
@@ -344,22 +238,8 @@ impl fmt::Debug for Scratch {
 /// It takes nothing from the heap and up to 512 KB from the stack. For more than a few questions open a [`Session`].
 pub fn ask(sheet: &[u8], store: &mut [u8], kept: u64, question: &[u8], budget: u64) -> Answer {
     reach_down_the_stack();
-    let mut answer = [0; 6];
-    // SAFETY: all is borrowed, for reading or writing as the call has it, and the stack was reached for. Nothing else is required.
-    unsafe {
-        sofretu_ask(
-            sheet.as_ptr(),
-            sheet.len(),
-            question.as_ptr(),
-            question.len(),
-            store.as_mut_ptr(),
-            store.len(),
-            kept,
-            budget,
-            &mut answer,
-        );
-    }
-    answered(answer)
+    // SAFETY: the stack was reached for.
+    answered(unsafe { sofretu_sys::ask(sheet, question, store, kept, budget) })
 }
 
 /// Whether a call with these arguments is refused before its run: the first of stops 1 to 13 that holds.
@@ -373,21 +253,8 @@ pub fn check(
     budget: u64,
 ) -> Result<(), Refusal> {
     reach_down_the_stack();
-    let mut place = 0;
-    // SAFETY: the bytes are borrowed for reading, `place` for writing, and the stack was reached for. Nothing else is required.
-    let number = unsafe {
-        sofretu_check(
-            sheet.as_ptr(),
-            sheet.len(),
-            question.as_ptr(),
-            question.len(),
-            store.as_ptr(),
-            store.len(),
-            kept,
-            budget,
-            &mut place,
-        )
-    };
+    // SAFETY: the stack was reached for.
+    let (number, place) = unsafe { sofretu_sys::check(sheet, question, store, kept, budget) };
     verdict(number, place)
 }
 

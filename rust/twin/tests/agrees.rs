@@ -1,49 +1,30 @@
 //! The twin against the second evaluator: every field of every answer, every byte of the store after it.
 
-use oracle::case::{read_lists, Case};
-use oracle::compare::Counts;
+use oracle::case::{read_lists, Ask, Case};
+use oracle::compare::{compare_check, Counts};
 use oracle::examples::read_examples;
 use oracle::generate;
 use oracle::{compare, Answer, Engine};
 use twin::{Scratch, Sheet, Store};
 
-fn answer(given: twin::Answer) -> Answer {
-    let [number, place, typ, value, steps, kept] = given.fields();
-    Answer {
-        number,
-        place,
-        typ,
-        value,
-        steps,
-        kept,
-    }
-}
-
 /// The twin in scratch that earlier calls have written.
-#[derive(Default)]
-struct Lent(Box<Scratch>);
-
-impl Engine for Lent {
-    fn ask(
-        &mut self,
-        sheet: &[u8],
-        store: &mut [u8],
-        kept: u64,
-        question: &[u8],
-        budget: u64,
-    ) -> Answer {
-        answer(twin::ask_in(
-            sheet,
-            question,
-            store,
-            kept,
-            budget,
-            &mut self.0,
-        ))
+fn lent() -> impl Engine {
+    let mut scratch = Box::<Scratch>::default();
+    move |sheet: &[u8], store: &mut [u8], kept: u64, question: &[u8], budget: u64| {
+        let given = twin::ask_in(sheet, question, store, kept, budget, &mut scratch);
+        Answer::from(given.fields())
     }
 }
 
-/// The list's questions put to a sheet and a store that are checked once, beside `ask` and `check` for each.
+/// The twin's check, for `compare_check`.
+fn check(sheet: &[u8], store: &[u8], kept: u64, ask: &Ask) -> Result<(), (i64, i64)> {
+    let Scratch { index, links, .. } = &mut *Box::<Scratch>::default();
+    let store = &mut store.to_vec();
+    twin::check(sheet, &ask.question, store, kept, ask.budget, index, links)
+        .map_err(|stop| (stop.reason as i64, stop.place as i64))
+}
+
+/// The list's questions put to a sheet and a store that are checked once, beside `ask` for each.
 fn checked_once(case: &Case) {
     let Scratch {
         index,
@@ -59,30 +40,9 @@ fn checked_once(case: &Case) {
     };
     let mut expected_store = case.store.clone();
     let mut kept = case.kept;
-    let mut scratch = Box::<Scratch>::default();
-    for ask in &case.asks {
-        let refused = twin::check(
-            &case.sheet,
-            &ask.question,
-            &mut expected_store,
-            kept,
-            ask.budget,
-            &mut scratch.index,
-            &mut scratch.links,
-        );
-        let expected = twin::ask(
-            &case.sheet,
-            &ask.question,
-            &mut expected_store,
-            kept,
-            ask.budget,
-        );
-        let before = expected
-            .ending
-            .err()
-            .filter(|stop| stop.reason as u32 <= 13);
-        assert_eq!(refused.err(), before);
-        let given = twin::ask_checked(&sheet, &mut store, &ask.question, ask.budget, stack);
+    for Ask { question, budget } in &case.asks {
+        let expected = twin::ask(&case.sheet, question, &mut expected_store, kept, *budget);
+        let given = twin::ask_checked(&sheet, &mut store, question, *budget, stack);
         assert_eq!(given, expected);
         assert_eq!(store.entries.as_flattened(), expected_store);
         kept = given.kept;
@@ -90,12 +50,15 @@ fn checked_once(case: &Case) {
 }
 
 fn agree(lists: impl Iterator<Item = Case>) -> Counts {
-    let mut lent = Lent::default();
+    let mut lent = lent();
     let mut counts = Counts::default();
     for case in lists {
         match compare(&mut lent, &case) {
             Ok(more) => counts.add(&more),
             Err(mismatch) => panic!("{mismatch}\n{}", case.answered(&mut lent)),
+        }
+        if let Err(differs) = compare_check(check, &case) {
+            panic!("{differs}\n{}", case.answered(&mut lent));
         }
         checked_once(&case);
     }
@@ -107,7 +70,7 @@ fn the_vectors_agree() {
     let text = include_str!("../../../tests/vectors/base.txt");
     let lists = read_lists(text).expect("the vectors' form");
     for listed in &lists {
-        assert_eq!(listed.case.clone().answered(&mut Lent::default()), *listed);
+        assert_eq!(listed.case.clone().answered(&mut lent()), *listed);
     }
     agree(lists.into_iter().map(|listed| listed.case));
 }

@@ -3,6 +3,7 @@
 use super::rng::Rng;
 use crate::expr::Attribute;
 use crate::values::{Base, Value};
+use crate::write::{attribute, end, figure, node, rule};
 
 #[derive(Clone, Default)]
 pub struct Draft {
@@ -30,25 +31,20 @@ impl Draft {
         let attributes = self
             .attributes
             .iter()
-            .map(|attribute| vec![0x41, attribute.result.code(), attribute.parameter.code()]);
-        let nodes = self.nodes.iter().map(|kind| vec![0x4E, *kind]);
+            .map(|declared| attribute(declared.result.code(), declared.parameter.code()));
+        let nodes = self.nodes.iter().map(|kind| node(*kind));
         let figures = self.figures.iter().map(|(node, attribute, value)| {
-            let node = node.to_le_bytes();
-            let mut command = vec![0x56, node[0], node[1], *attribute];
-            command.extend(value.to_bytes());
-            command
+            figure(*node, *attribute, i32::from_le_bytes(value.to_bytes()))
         });
-        let rules = self.rules.iter().map(|(kind, attribute, expr)| {
-            let length = (expr.len() as u16).to_le_bytes();
-            let mut command = vec![0x52, *kind, *attribute, length[0], length[1]];
-            command.extend(expr);
-            command
-        });
+        let rules = self
+            .rules
+            .iter()
+            .map(|(kind, attribute, expr)| rule(*kind, *attribute, expr));
         attributes
             .chain(nodes)
             .chain(figures)
             .chain(rules)
-            .chain([vec![0x5A]])
+            .chain([end()])
             .collect()
     }
 

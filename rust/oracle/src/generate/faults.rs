@@ -2,10 +2,11 @@
 
 use super::draft::Draft;
 use super::rng::Rng;
-use super::writer::{apply, attribute_of, function_types, if_then_else, unit_of_length, Writer};
+use super::writer::{apply, function_types, unit_of_length, Writer};
 use crate::expr::LONGEST;
 use crate::sheet::{MOST_ATTRIBUTES, MOST_NODES};
 use crate::values::{Base, Type};
+use crate::write::{if_else, of};
 
 /// A sheet whose commands are dropped, repeated, swapped, cut or given other operands.
 pub fn mangled(rng: &mut Rng, draft: &Draft) -> Vec<u8> {
@@ -126,10 +127,10 @@ pub fn misfit(writer: &mut Writer) -> Vec<u8> {
         .collect();
     let code = writer.rng.below(6) as u8;
     match writer.rng.below(4) {
-        0 => if_then_else(&parts[0], &parts[1], &parts[2]),
+        0 => if_else(&parts[0], &parts[1], &parts[2]),
         1 => apply(code, &[&parts[0], &parts[1]]),
         2 => apply(code, &[&parts[0]]),
-        _ => attribute_of(code, &parts[0], &parts[1]),
+        _ => of(&parts[0], code, &parts[1]),
     }
 }
 

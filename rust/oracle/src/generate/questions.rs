@@ -3,12 +3,11 @@
 use super::draft::{base_value, Draft};
 use super::faults::misfit;
 use super::rng::Rng;
-use super::writer::{
-    apply, attribute_of, function_types, if_then_else, literal, number, unit_of_length, Writer,
-};
+use super::writer::{apply, function_types, literal, number, unit_of_length, Writer};
 use crate::expr::LONGEST;
 use crate::sheet::MOST_ATTRIBUTES;
 use crate::values::{Base, Type, Value};
+use crate::write::{if_else, of};
 
 /// A question, refused once in six or so.
 pub fn question(rng: &mut Rng, draft: &Draft) -> Vec<u8> {
@@ -54,15 +53,15 @@ fn occurrence(writer: &mut Writer, attribute: u8) -> Vec<u8> {
         }
         base => literal(base_value(writer.rng, base, nodes)),
     };
-    attribute_of(attribute, &literal(Value::Node(node)), &parameter)
+    of(&literal(Value::Node(node)), attribute, &parameter)
 }
 
 fn two_occurrences(writer: &mut Writer, attribute: u8) -> Vec<u8> {
     let one = occurrence(writer, attribute);
     let other = occurrence(writer, attribute);
     match writer.draft.attributes[usize::from(attribute)].result {
-        Base::Unit => if_then_else(&[0x11, 0], &one, &other),
-        Base::Bool => if_then_else(&one, &other, &one),
+        Base::Unit => if_else(&[0x11, 0], &one, &other),
+        Base::Bool => if_else(&one, &other, &one),
         Base::Int => apply(writer.rng.pick(&[0, 1, 4, 5]), &[&one, &other]),
         Base::Node => apply(2, &[&one, &other]),
     }

@@ -2,12 +2,11 @@
 
 use super::draft::{base_value, int, Draft};
 use super::rng::Rng;
-use super::writer::{
-    apply, attribute_of, if_then_else, literal, number, unit_of_length, wrapped, Writer,
-};
+use super::writer::{apply, literal, number, unit_of_length, wrapped, Writer};
 use crate::expr::LONGEST;
 use crate::sheet::{LONGEST_SHEET, MOST_ATTRIBUTES, MOST_NODES};
 use crate::values::{Base, Type, Value};
+use crate::write::{if_else, of};
 
 /// A sheet of some family. Nearly all are accepted.
 pub fn draft(rng: &mut Rng) -> Draft {
@@ -93,16 +92,16 @@ fn chain(rng: &mut Rng) -> Draft {
         draft.figures.push((node, up, Value::Node(above)));
         draft.figures.push((node, own, Value::Int(value)));
     }
-    let own_here = attribute_of(own, &[0x30], &[0x10]);
-    let above = attribute_of(up, &[0x30], &[0x10]);
+    let own_here = of(&[0x30], own, &[0x10]);
+    let above = of(&[0x30], up, &[0x10]);
     let unset = apply(1, &[&own_here, &number(0)]);
-    let inherited = attribute_of(dial, &above, &[0x10]);
+    let inherited = of(&above, dial, &[0x10]);
     let sum = apply(rng.pick(&[4, 5]), &[&[0x31], &own_here]);
-    let further = attribute_of(total, &above, &sum);
+    let further = of(&above, total, &sum);
     draft.rules.push((0, dial, own_here.clone()));
     draft
         .rules
-        .push((1, dial, if_then_else(&unset, &inherited, &own_here)));
+        .push((1, dial, if_else(&unset, &inherited, &own_here)));
     draft.rules.push((0, total, vec![0x31]));
     draft
         .rules
@@ -119,7 +118,7 @@ fn countdown(rng: &mut Rng) -> Draft {
         draft.node(0);
     }
     let less = |by| apply(5, &[&[0x31], &number(by)]);
-    let again = |by| attribute_of(count, &[0x30], &less(by));
+    let again = |by| of(&[0x30], count, &less(by));
     let done = apply(0, &[&[0x31], &number(0)]);
     let further = match rng.below(4) {
         0 => apply(4, &[&number(1), &again(1)]),
@@ -127,12 +126,12 @@ fn countdown(rng: &mut Rng) -> Draft {
         2 => apply(4, &[&again(1), &again(2)]),
         _ => again(1),
     };
-    let rule = if_then_else(&done, &number(1), &further);
+    let rule = if_else(&done, &number(1), &further);
     draft.rules.push((0, count, rule));
-    let other = apply(3, &[&attribute_of(odd, &[0x30], &less(1))]);
+    let other = apply(3, &[&of(&[0x30], odd, &less(1))]);
     draft
         .rules
-        .push((0, odd, if_then_else(&done, &[0x11, 0], &other)));
+        .push((0, odd, if_else(&done, &[0x11, 0], &other)));
     draft
 }
 
@@ -156,10 +155,10 @@ fn circle(rng: &mut Rng) -> Draft {
             } else {
                 vec![0x30]
             };
-            let around = attribute_of((attribute + 1) % attributes, &node, &[0x31]);
+            let around = of(&node, (attribute + 1) % attributes, &[0x31]);
             let rule = if rng.once_in(4) {
                 let end = literal(base_value(rng, result, nodes));
-                if_then_else(&apply(2, &[&[0x30], &node]), &around, &end)
+                if_else(&apply(2, &[&[0x30], &node]), &around, &end)
             } else {
                 around
             };
@@ -187,21 +186,21 @@ fn hostile(rng: &mut Rng) -> Draft {
             .figures
             .push((node, next, Value::Node(Some(following))));
     }
-    let following = attribute_of(next, &[0x30], &[0x10]);
-    let onward = |attribute| attribute_of(attribute, &following, &[0x31]);
+    let following = of(&[0x30], next, &[0x10]);
+    let onward = |attribute| of(&following, attribute, &[0x31]);
     let nested = match rng.below(3) {
         0 => wrapped(onward(deep), |inner| apply(3, &[inner])),
-        1 => wrapped(onward(deep), |inner| if_then_else(inner, &[0x31], &[0x31])),
-        _ => wrapped(onward(deep), |inner| if_then_else(&[0x31], &[0x31], inner)),
+        1 => wrapped(onward(deep), |inner| if_else(inner, &[0x31], &[0x31])),
+        _ => wrapped(onward(deep), |inner| if_else(&[0x31], &[0x31], inner)),
     };
     let walked = match rng.below(3) {
-        0 => wrapped(onward(walk), |inner| attribute_of(next, inner, &[0x10])),
-        1 => wrapped(vec![0x31], |inner| attribute_of(walk, &following, inner)),
-        _ => wrapped(onward(walk), |inner| attribute_of(walk, inner, &[0x31])),
+        0 => wrapped(onward(walk), |inner| of(inner, next, &[0x10])),
+        1 => wrapped(vec![0x31], |inner| of(&following, walk, inner)),
+        _ => wrapped(onward(walk), |inner| of(inner, walk, &[0x31])),
     };
     let part = match rng.below(4) {
         0 => onward(wide),
-        1 => attribute_of(wide, &following, &apply(5, &[&[0x31], &number(1)])),
+        1 => of(&following, wide, &apply(5, &[&[0x31], &number(1)])),
         2 => number(int(rng)),
         _ => vec![0x31],
     };
@@ -246,15 +245,15 @@ fn tree(rng: &mut Rng) -> Draft {
     for side in [left, right] {
         draft.rules.push((0, side, literal(Value::Node(None))));
     }
-    let side = |side| attribute_of(side, &[0x30], &[0x10]);
-    let least_of = |from| attribute_of(least, &side(from), &[0x10]);
-    let value_of = |from| attribute_of(value, &least_of(from), &[0x10]);
+    let side = |side| of(&[0x30], side, &[0x10]);
+    let least_of = |from| of(&side(from), least, &[0x10]);
+    let value_of = |from| of(&least_of(from), value, &[0x10]);
     let smaller = apply(0, &[&value_of(left), &value_of(right)]);
-    let rule = if_then_else(&smaller, &least_of(left), &least_of(right));
+    let rule = if_else(&smaller, &least_of(left), &least_of(right));
     draft.rules.push((0, least, vec![0x30]));
     draft.rules.push((1, least, rule));
-    let sum_of = |from| attribute_of(sum, &side(from), &[0x31]);
-    let own = apply(4, &[&[0x31], &attribute_of(value, &[0x30], &[0x10])]);
+    let sum_of = |from| of(&side(from), sum, &[0x31]);
+    let own = apply(4, &[&[0x31], &of(&[0x30], value, &[0x10])]);
     draft.rules.push((0, sum, own));
     draft
         .rules

@@ -4,6 +4,7 @@ use super::draft::{base_value, Draft};
 use super::rng::Rng;
 use crate::expr::LONGEST;
 use crate::values::{Base, Type, Value};
+use crate::write::if_else;
 
 /// The function types that some value has.
 pub fn function_types() -> [Type; 7] {
@@ -134,19 +135,11 @@ pub fn number(int: i32) -> Vec<u8> {
     literal(Value::Int(int))
 }
 
-pub fn attribute_of(attribute: u8, node: &[u8], parameter: &[u8]) -> Vec<u8> {
-    [&[0x22, attribute], node, parameter].concat()
-}
-
 pub fn apply(code: u8, arguments: &[&[u8]]) -> Vec<u8> {
     let mut written = vec![0x21; arguments.len()];
     written.extend([0x14, code]);
     written.extend(arguments.concat());
     written
-}
-
-pub fn if_then_else(condition: &[u8], yes: &[u8], no: &[u8]) -> Vec<u8> {
-    [&[0x20], condition, yes, no].concat()
 }
 
 /// A Unit expression of exactly `length` bytes, from 14 on.
@@ -156,9 +149,9 @@ pub fn unit_of_length(length: usize) -> Vec<u8> {
         .find(|nots| (length - 1 - 3 * nots).is_multiple_of(4))
         .expect("3 and 4 have no common divisor");
     let condition = [&[0x21, 0x14, 3].repeat(nots)[..], &truth].concat();
-    let mut expr = if_then_else(&condition, &[0x10], &[0x10]);
+    let mut expr = if_else(&condition, &[0x10], &[0x10]);
     while expr.len() < length {
-        expr = if_then_else(&truth, &expr, &[0x10]);
+        expr = if_else(&truth, &expr, &[0x10]);
     }
     expr
 }

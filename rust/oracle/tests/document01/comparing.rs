@@ -59,13 +59,14 @@ fn the_oracle_passes_and_is_counted() {
 
 #[test]
 fn an_engine_that_always_says_700() {
-    let (compared, violated) = let_by(|_| answer([0, 0, 2, 700, 8, 5]));
+    let (compared, violated) = let_by(|_| Answer::from([0, 0, 2, 700, 8, 5]));
     assert_eq!((compared, violated), (false, Some("demand 3 (b)")));
 }
 
 #[test]
 fn an_engine_that_turns_every_question_down() {
-    let (compared, violated) = let_by(|(_, _, kept, _, _)| answer([12, 0, 0, 0, 0, kept as i64]));
+    let (compared, violated) =
+        let_by(|(_, _, kept, _, _)| Answer::from([12, 0, 0, 0, 0, kept as i64]));
     assert_eq!((compared, violated), (false, Some("demand 3 (a)")));
 }
 
@@ -95,9 +96,11 @@ fn an_engine_with_an_invented_step_count() {
 
 #[test]
 fn engines_that_say_spent_or_depth_on_arrival() {
-    let (compared, violated) = let_by(|(_, _, kept, _, _)| answer([15, 0, 0, 0, 0, kept as i64]));
+    let (compared, violated) =
+        let_by(|(_, _, kept, _, _)| Answer::from([15, 0, 0, 0, 0, kept as i64]));
     assert_eq!((compared, violated), (false, Some("demand 3 (a)")));
-    let (compared, violated) = let_by(|(_, _, kept, _, _)| answer([16, 0, 0, 0, 0, kept as i64]));
+    let (compared, violated) =
+        let_by(|(_, _, kept, _, _)| Answer::from([16, 0, 0, 0, 0, kept as i64]));
     assert_eq!((compared, violated), (false, None));
 }
 
@@ -143,7 +146,7 @@ fn an_engine_that_goes_beyond_plain_saiga() {
     let mut engine = |sheet: &[u8], store: &mut [u8], kept: u64, question: &[u8], budget: u64| {
         let given = ask(sheet, store, kept, question, budget);
         match given.number {
-            16 => answer([0, 0, 2, 0, given.steps, given.kept]),
+            16 => Answer::from([0, 0, 2, 0, given.steps, given.kept]),
             _ => given,
         }
     };
@@ -161,7 +164,7 @@ fn with_capacity_0_the_steps_are_plain_saigas_own() {
     let hasty = |sheet: &[u8], store: &mut [u8], kept: u64, question: &[u8], budget: u64| {
         let given = ask(sheet, store, kept, question, budget);
         match given.number {
-            14 | 15 => answer([14, 0, 0, 0, 0, given.kept]),
+            14 | 15 => Answer::from([14, 0, 0, 0, 0, given.kept]),
             _ => given,
         }
     };

@@ -12,7 +12,7 @@ fn refused(sheet: &[u8]) -> (i64, i64) {
     let given = ask(sheet, &mut store, 9, &[0xFF], u64::MAX);
     assert_eq!(store, [0xEE; 25]);
     let Answer { number, place, .. } = given;
-    assert_eq!(given, answer([number, place, 0, 0, 0, 9]));
+    assert_eq!(given, Answer::from([number, place, 0, 0, 0, 9]));
     (number, place)
 }
 
@@ -243,11 +243,11 @@ fn branches_of_if_can_have_a_function_type() {
     let question = |parameter: &[u8]| of(&node_literal(0), 0, parameter);
     assert_eq!(
         fresh(&sheet, &question(&TRUE), MOST),
-        answer([0, 0, 2, 9, 5, 1])
+        Answer::from([0, 0, 2, 9, 5, 1])
     );
     assert_eq!(
         fresh(&sheet, &question(&FALSE), MOST),
-        answer([0, 0, 2, 5, 5, 1])
+        Answer::from([0, 0, 2, 5, 5, 1])
     );
 }
 
@@ -297,7 +297,7 @@ fn a_figure_goes_before_a_rule_and_a_rule_needs_no_node() {
     ]
     .concat();
     let given = fresh(&sheet, &of(&node_literal(0), 0, &UNIT), MOST);
-    assert_eq!(given, answer([0, 0, 2, 7, 1, 1]));
+    assert_eq!(given, Answer::from([0, 0, 2, 7, 1, 1]));
     let checked = [attribute(2, 0), rule(15, 0, &UNIT), end()].concat();
     assert_eq!(refused(&checked), (7, 3));
 }
@@ -324,13 +324,17 @@ fn stop_9_the_stores_shape() {
     ];
     for (length, kept) in bad {
         let given = with_store(&vec![0; length], kept, &[], u64::MAX);
-        assert_eq!(given, answer([9, 0, 0, 0, 0, kept as i64]), "{length}");
+        assert_eq!(
+            given,
+            Answer::from([9, 0, 0, 0, 0, kept as i64]),
+            "{length}"
+        );
     }
     let given = with_store(&[0; 12], u64::MAX, &UNIT, 0);
-    assert_eq!(given, answer([9, 0, 0, 0, 0, -1]));
+    assert_eq!(given, Answer::from([9, 0, 0, 0, 0, -1]));
     for capacity in [0, 1, 1_023, 1_024] {
         let given = with_store(&vec![0xFF; 12 * capacity], 0, &UNIT, 0);
-        assert_eq!(given, answer([0, 0, 0, 0, 0, 0]));
+        assert_eq!(given, Answer::from([0, 0, 0, 0, 0, 0]));
     }
 }
 
@@ -350,10 +354,10 @@ fn stop_10_the_first_faulty_entry() {
     for bad in &bad {
         let store = [&good, bad, bad, &good].map(|entry| &entry[..]).concat();
         let given = with_store(&store, 4, &[], u64::MAX);
-        assert_eq!(given, answer([10, 1, 0, 0, 0, 4]), "{bad:?}");
+        assert_eq!(given, Answer::from([10, 1, 0, 0, 0, 4]), "{bad:?}");
         // What is not kept is not looked at.
         let given = with_store(&store, 1, &UNIT, 0);
-        assert_eq!(given, answer([0, 0, 0, 0, 0, 1]));
+        assert_eq!(given, Answer::from([0, 0, 0, 0, 0, 1]));
     }
 }
 
@@ -389,7 +393,7 @@ fn stop_10_looks_at_values_of_every_type() {
 fn stop_11_the_budget() {
     for budget in [1_000_001, u64::MAX] {
         let given = with_store(&[0xEE; 24], 0, &[], budget);
-        assert_eq!(given, answer([11, 0, 0, 0, 0, 0]));
+        assert_eq!(given, Answer::from([11, 0, 0, 0, 0, 0]));
     }
     assert_eq!(with_store(&[0xEE; 24], 0, &UNIT, MOST).number, 0);
 }
@@ -410,12 +414,12 @@ fn stop_12_the_questions_form() {
     ];
     for question in bad {
         let given = with_store(&[0xEE; 24], 0, question, 9);
-        assert_eq!(given, answer([12, 0, 0, 0, 0, 0]), "{question:?}");
+        assert_eq!(given, Answer::from([12, 0, 0, 0, 0, 0]), "{question:?}");
     }
     let given = with_store(&[0xEE; 24], 0, &nested_unit(64), MOST);
-    assert_eq!(given, answer([12, 0, 0, 0, 0, 0]));
+    assert_eq!(given, Answer::from([12, 0, 0, 0, 0, 0]));
     let given = with_store(&[0xEE; 24], 0, &nested_unit(63), MOST);
-    assert_eq!(given, answer([0, 0, 0, 0, 63, 0]));
+    assert_eq!(given, Answer::from([0, 0, 0, 0, 63, 0]));
 }
 
 #[test]
@@ -430,14 +434,14 @@ fn stop_13_the_questions_type() {
     ];
     for question in bad {
         let given = with_store(&[0xEE; 24], 0, &question, 9);
-        assert_eq!(given, answer([13, 0, 0, 0, 0, 0]), "{question:?}");
+        assert_eq!(given, Answer::from([13, 0, 0, 0, 0, 0]), "{question:?}");
     }
 }
 
 #[test]
 fn stop_14_goes_before_15_and_16() {
     let given = fresh(&sheet_l(), &of(&NULL, OWN, &UNIT), 0);
-    assert_eq!(given, answer([14, 0, 0, 0, 0, 0]));
+    assert_eq!(given, Answer::from([14, 0, 0, 0, 0, 0]));
     // 64 forms, then an attribute of null: attribute 0 of p is IF le(p)(1) THEN null's attribute ELSE that of p - 1.
     let at_null = of(&NULL, 0, &PARAMETER);
     let further = of(&THIS, 0, &binary(5, &PARAMETER, &int(1)));
@@ -447,12 +451,12 @@ fn stop_14_goes_before_15_and_16() {
     let question = of(&node_literal(0), 0, &int(64));
     for budget in [steps, steps + 1, MOST] {
         let given = fresh(&sheet, &question, budget);
-        assert_eq!(given, answer([14, 0, 0, 0, steps as i64, 0]));
+        assert_eq!(given, Answer::from([14, 0, 0, 0, steps as i64, 0]));
     }
     let given = fresh(&sheet, &question, steps - 1);
-    assert_eq!(given, answer([15, 0, 0, 0, steps as i64 - 1, 0]));
+    assert_eq!(given, Answer::from([15, 0, 0, 0, steps as i64 - 1, 0]));
     let given = fresh(&sheet, &of(&node_literal(0), 0, &int(65)), MOST);
-    assert_eq!(given, answer([16, 0, 0, 0, 64 * 6, 0]));
+    assert_eq!(given, Answer::from([16, 0, 0, 0, 64 * 6, 0]));
 }
 
 #[test]
@@ -462,7 +466,7 @@ fn stop_15_is_due_at_each_counted_step() {
     let attribute = of(&node_literal(0), OWN, &UNIT);
     for question in [conditional, applied, attribute] {
         let given = fresh(&sheet_l(), &question, 0);
-        assert_eq!(given, answer([15, 0, 0, 0, 0, 0]), "{question:?}");
+        assert_eq!(given, Answer::from([15, 0, 0, 0, 0, 0]), "{question:?}");
         assert_eq!(fresh(&sheet_l(), &question, 1).number, 0);
     }
 }
@@ -491,12 +495,12 @@ fn stop_16_is_due_inside_64_open_forms() {
     // Node n's attribute opens n forms before node 0's figure is due.
     let question = |number| of(&node_literal(number), 0, &UNIT);
     let given = fresh(&sheet, &question(63), MOST);
-    assert_eq!(given, answer([0, 0, 2, 5, 127, 127]));
+    assert_eq!(given, Answer::from([0, 0, 2, 5, 127, 127]));
     // Inside the 64th form even the figure of `up` is one too deep.
     let given = fresh(&sheet, &question(64), MOST);
-    assert_eq!(given, answer([16, 0, 0, 0, 127, 63]));
+    assert_eq!(given, Answer::from([16, 0, 0, 0, 127, 63]));
     let given = fresh(&sheet, &question(64), 127);
-    assert_eq!(given, answer([15, 0, 0, 0, 127, 63]));
+    assert_eq!(given, Answer::from([15, 0, 0, 0, 127, 63]));
 }
 
 #[test]
@@ -515,7 +519,7 @@ fn stop_16_counts_only_forms_that_stand_around() {
     let question = sum_of(&of(&node_literal(0), 1, &UNIT));
     let given = Lent::new(0).ask(&sheet, &question, MOST);
     let steps = 10 * (1 + 10 + 9 * 2) + 9 * 2;
-    assert_eq!(given, answer([0, 0, 2, 300, steps, 0]));
+    assert_eq!(given, Answer::from([0, 0, 2, 300, steps, 0]));
 }
 
 #[test]
@@ -525,27 +529,27 @@ fn stop_16_holds_for_kept_occurrences_too() {
     let mut lent = Lent::new(1_024);
     // Node 1's attribute and `up` are kept, so node 64's chain would end at node 1.
     let given = lent.ask(&sheet, &question(1), MOST);
-    assert_eq!(given, answer([0, 0, 2, 5, 3, 3]));
+    assert_eq!(given, Answer::from([0, 0, 2, 5, 3, 3]));
     // Nodes 65 to 2 open 64 forms; inside the 64th, node 2's `up` is not kept and is due too deep.
     let given = lent.ask(&sheet, &question(65), MOST);
-    assert_eq!(given, answer([16, 0, 0, 0, 127, 66]));
+    assert_eq!(given, Answer::from([16, 0, 0, 0, 127, 66]));
     // Now node 2's `up` is kept, as every `up` from 65 to 3 was.
     let given = lent.ask(&sheet, &of(&node_literal(2), 1, &UNIT), MOST);
-    assert_eq!(given, answer([0, 0, 3, 1, 1, 67]));
+    assert_eq!(given, Answer::from([0, 0, 3, 1, 1, 67]));
     let given = lent.ask(&sheet, &question(65), MOST);
-    assert_eq!(given, answer([16, 0, 0, 0, 127, 67]));
+    assert_eq!(given, Answer::from([16, 0, 0, 0, 127, 67]));
     // From node 64 the 63rd form is node 2's; node 1's kept value ends it.
     let given = lent.ask(&sheet, &question(64), MOST);
-    assert_eq!(given, answer([0, 0, 2, 5, 127, 67 + 63]));
+    assert_eq!(given, Answer::from([0, 0, 2, 5, 127, 67 + 63]));
 }
 
 #[test]
 fn a_wrong_store_is_believed() {
     let mut store = [entry(1, DIAL, 0, -9), vec![0xEE; 12]].concat();
     let given = ask(&sheet_l(), &mut store, 1, &d(), MOST);
-    assert_eq!(given, answer([0, 0, 2, -9, 1, 1]));
+    assert_eq!(given, Answer::from([0, 0, 2, -9, 1, 1]));
     let given = ask(&sheet_l(), &mut store, 1, &l10(), MOST);
-    assert_eq!(given, answer([14, 0, 0, 0, 1, 2]));
+    assert_eq!(given, Answer::from([14, 0, 0, 0, 1, 2]));
     assert_eq!(
         store,
         [entry(1, DIAL, 0, -9), entry(0, UP, 0, 65_535)].concat()
@@ -556,15 +560,15 @@ fn a_wrong_store_is_believed() {
 fn answers_of_each_base_type() {
     let sheet = sheet_l();
     let given = |question: &[u8]| fresh(&sheet, question, MOST);
-    assert_eq!(given(&UNIT), answer([0, 0, 0, 0, 0, 0]));
-    assert_eq!(given(&TRUE), answer([0, 0, 1, 1, 0, 0]));
-    assert_eq!(given(&FALSE), answer([0, 0, 1, 0, 0, 0]));
+    assert_eq!(given(&UNIT), Answer::from([0, 0, 0, 0, 0, 0]));
+    assert_eq!(given(&TRUE), Answer::from([0, 0, 1, 1, 0, 0]));
+    assert_eq!(given(&FALSE), Answer::from([0, 0, 1, 0, 0, 0]));
     assert_eq!(
         given(&int(i32::MIN)),
-        answer([0, 0, 2, -2_147_483_648, 0, 0])
+        Answer::from([0, 0, 2, -2_147_483_648, 0, 0])
     );
-    assert_eq!(given(&node_literal(2)), answer([0, 0, 3, 2, 0, 0]));
-    assert_eq!(given(&NULL), answer([0, 0, 3, 65_535, 0, 0]));
+    assert_eq!(given(&node_literal(2)), Answer::from([0, 0, 3, 2, 0, 0]));
+    assert_eq!(given(&NULL), Answer::from([0, 0, 3, 65_535, 0, 0]));
 }
 
 #[test]
@@ -575,5 +579,5 @@ fn the_deepest_nesting_fits_the_stack() {
     let sheet = [attribute(1, 1), node(0), rule(0, 0, &nots), end()].concat();
     let question = of(&node_literal(0), 0, &TRUE);
     let given = fresh(&sheet, &question, MOST);
-    assert_eq!(given, answer([16, 0, 0, 0, 64, 0]));
+    assert_eq!(given, Answer::from([16, 0, 0, 0, 64, 0]));
 }

@@ -89,7 +89,7 @@ fn rattle() -> Calls {
 }
 
 fn rust() -> Calls {
-    let text = text("rust/sofretu/src/library.rs");
+    let text = text("rust/sofretu-sys/src/lib.rs");
     let constants: BTreeMap<String, String> = between(&text, "const ", ";")
         .into_iter()
         .filter_map(|declared| {
