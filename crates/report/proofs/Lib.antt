@@ -1,0 +1,5 @@
+pub mod Puts
+pub mod Counts
+pub mod Preparing
+pub mod Turns
+pub mod Running
