@@ -3,3 +3,4 @@ pub mod Counts
 pub mod Preparing
 pub mod Turns
 pub mod Running
+pub mod Printed

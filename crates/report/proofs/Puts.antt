@@ -1,6 +1,6 @@
 -- A question put to a refused sheet, and to one that was accepted.
 use mathlib.Core.List.{List, []}
-use mathlib.Core.Path.{_≡_, refl, sym, ap, ap₂, _∙_}
+use mathlib.Core.Path.{_≡_, sym, ap, ap₂, _∙_}
 use Prim.Native.Nat.{ℕ}
 use native.Mathlib.Omega.{arith}
 use Rattle.specs.specs.Sheet.{Sheet, Checked, refused, accepted, checkSheet}
@@ -10,9 +10,9 @@ use Rattle.sheets.specs.Scan.{checkOf}
 use Rattle.sheets.specs.declared.SheetCheck.{SheetCheck}
 use Rattle.sheets.specs.declared.SheetCheck.the-variants.{Refused, Accepted}
 use Rattle.checks.specs.Answers.{answerOf}
-use Rattle.checks.specs.declared.Answer as Declared
-use Rattle.standin.specs.Asked.{askedOf, asked, Ready, Asked}
+use Rattle.standin.specs.Asked.{askedOf, asked, Asked}
 use Rattle.report.specs.Report.{Prepared, Put, lent, after}
+use Rattle.checks.specs.declared.Answer as Declared
 
 refused-of : (k : Checked Sheet) (number place : ℕ) → Refused number place ≡ checkOf k → k ≡ refused number place
 unfolding checkOf

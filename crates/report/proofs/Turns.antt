@@ -6,7 +6,7 @@ use Prim.Native.Nat.{ℕ, zero, suc, _+_, _-_, _≤_, _<_}
 use native.Mathlib.Omega.{arith}
 use lib.Dec.{eqb}
 use lib.ListN.{length, take, drop, length-drop, take-append-drop}
-use lib.Seq.{take-take, drop-drop, length-take-le, drop-nil, take-nil}
+use lib.Seq.{take-take, drop-drop, length-take-le, take-nil}
 use borrow.Author.Tests.{eqb-true, eqb-false, eq-eqb, ne-eqb}
 use Rattle.stream.specs.Stream.{front}
 use Rattle.stream.specs.Next.{nextOf}

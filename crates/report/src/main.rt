@@ -59,6 +59,33 @@ fn read_file(fd: i32, bytes: &mut [u8]) -> usize
     n
 }
 
+// sheet.bin, of which one byte more is read than a sheet may have; none where it cannot be read.
+fn read_sheet(bytes: &mut [u8]) -> usize
+    ensures { λ r. ⌜ r ≤ length (now (bytes .exit)) ⌝ }
+{
+    let fd = os::open_read(b"sheet.bin");
+    if fd < 0 {
+        return 0;
+    }
+    let n = read_file(fd, bytes);
+    libc::close(fd);
+    n
+}
+
+// The bytes at hand are moved to the front of the buffer, and what the input brings is put after them; a read that fails brings nothing.
+fn read_on(input: &mut [u8], from: usize, to: usize) -> usize
+    requires { ⌜ (from ≤ to) × (to ≤ length (now input)) × (to - from < length (now input)) ⌝ }
+    ensures { λ r. ⌜ (to - from ≤ r) × (r ≤ length (now (input .exit))) ⌝ }
+    ensures { λ _. ⌜ take (to - from) (now (input .exit)) ≡ take (to - from) (drop from (now (input .entry))) ⌝ }
+{
+    let held = stream::shift(input, from, to);
+    let got = read_at(STDIN_FILENO, input, held);
+    if got < 0 {
+        return held;
+    }
+    held + got as usize
+}
+
 // The line of an answer.
 fn line_of(answer: Answer, out: &mut [u8; 128]) -> usize
     ensures { λ r. ⌜ r ≡ length (lineOf (answerOf answer)) ⌝ }
@@ -135,20 +162,6 @@ fn ask(
             forms,
         ),
     }
-}
-
-// The bytes at hand are moved to the front of the buffer, and what the input brings is put after them; a read that fails brings nothing.
-fn read_on(input: &mut [u8], from: usize, to: usize) -> usize
-    requires { ⌜ (from ≤ to) × (to ≤ length (now input)) × (to - from < length (now input)) ⌝ }
-    ensures { λ r. ⌜ (to - from ≤ r) × (r ≤ length (now (input .exit))) ⌝ }
-    ensures { λ _. ⌜ take (to - from) (now (input .exit)) ≡ take (to - from) (drop from (now (input .entry))) ⌝ }
-{
-    let held = stream::shift(input, from, to);
-    let got = read_at(STDIN_FILENO, input, held);
-    if got < 0 {
-        return held;
-    }
-    held + got as usize
 }
 
 // A question is put, and the line of its answer printed.
@@ -314,19 +327,6 @@ fn prepare(sheet: &[u8], index: &mut [u32; 33280], store: &[u8], links: &mut [u3
             SheetCheck::Accepted(attributes, nodes)
         }
     }
-}
-
-// sheet.bin, of which one byte more is read than a sheet may have; none where it cannot be read.
-fn read_sheet(bytes: &mut [u8]) -> usize
-    ensures { λ r. ⌜ r ≤ length (now (bytes .exit)) ⌝ }
-{
-    let fd = os::open_read(b"sheet.bin");
-    if fd < 0 {
-        return 0;
-    }
-    let n = read_file(fd, bytes);
-    libc::close(fd);
-    n
 }
 
 // All questions are put to one store of 1,024 entries, which is empty at first. `index` has room for the sheet's.

@@ -1,53 +1,38 @@
+-- The buffers have the lengths that `run` asks for.
 use Prim.Native.Nat.{ℕ}
 use lib.Dec.{lit≤}
 use lib.ListN.{length-replicate}
-use mathlib.Core.Path.{refl}
-use native.Mathlib.Omega.{arith}
 use borrow.Author.Needs.{needs}
 use Rattle.report.proofs.answer_all.Statement.{statement}
 use Rattle.report.proofs.answer_all.Tie as tie
-use Rattle.report.proofs.answer_all.Reads as reads
-use Rattle.report.proofs.answer_all.Lts as lts
-use Rattle.report.proofs.prepare.Reads as prepare-reads
-use Rattle.report.proofs.run.Reads as run-reads
 
--- src/main.rt:336:39
 slice-aggregate-prepare : tie.Need-slice-aggregate-prepare
 slice-aggregate-prepare c = search needs
 
--- src/main.rt:336:47
 slice-aggregate-prepare-2 : tie.Need-slice-aggregate-prepare-2
 slice-aggregate-prepare-2 c = search needs
 
--- src/main.rt:336:9
 prepare-requires : tie.Need-prepare-requires
 prepare-requires c κs = search needs
 
--- src/main.rt:344:9
 slice-aggregate-run : tie.Need-slice-aggregate-run
 slice-aggregate-run c = search needs
 
--- src/main.rt:345:9
 slice-aggregate-run-2 : tie.Need-slice-aggregate-run-2
 slice-aggregate-run-2 c = search needs
 
--- src/main.rt:346:9
 slice-aggregate-run-3 : tie.Need-slice-aggregate-run-3
 slice-aggregate-run-3 c = search needs
 
--- src/main.rt:347:9
 slice-aggregate-run-4 : tie.Need-slice-aggregate-run-4
 slice-aggregate-run-4 c = search needs
 
--- src/main.rt:348:9
 slice-aggregate-run-5 : tie.Need-slice-aggregate-run-5
 slice-aggregate-run-5 c = search needs
 
--- src/main.rt:340:5
 run-requires : tie.Need-run-requires
-run-requires c κs = ((c .before .before .before .before .before .before .before .before .prepare) .ensures, (rw length-replicate (lit≤ tt), (length-replicate {A = ℕ} 16640 0, length-replicate {A = ℕ} 256 0)))
+run-requires c κs = (c .before .before .before .before .before .before .before .before .prepare .ensures, (rw length-replicate (lit≤ tt), (length-replicate {A = ℕ} 16640 0, length-replicate {A = ℕ} 256 0)))
 
--- src/main.rt:333:1
 returns : tie.Need-returns
 returns c = search needs
 

@@ -1,51 +1,38 @@
-use Rattle.report.proofs.Puts.{put-refused, put-accepted}
+-- A refused sheet and an accepted one (Puts.antt).
 use borrow.Author.Needs.{needs}
+use Rattle.report.proofs.Puts.{put-refused, put-accepted}
 use Rattle.report.proofs.ask.Statement.{statement}
 use Rattle.report.proofs.ask.Tie as tie
-use Rattle.report.proofs.ask.Reads as reads
-use Rattle.report.proofs.ask.Lts as lts
-use Rattle.checks.proofs.refuse.Reads as refuse-reads
-use Rattle.standin.proofs.ask_checked.Reads as ask-checked-reads
 
--- src/main.rt:105:29
 enum-known-check : tie.Need-enum-known-check
 enum-known-check c = search needs
 
--- src/main.rt:105:47
 refuse-requires : tie.Need-refuse-requires
 refuse-requires c κs = search needs
 
--- src/main.rt:106:30
 enum-known-check-2 : tie.Need-enum-known-check-2
 enum-known-check-2 c = search needs
 
--- src/main.rt:106:52
 ask-checked-requires : tie.Need-ask-checked-requires
-ask-checked-requires c κs = ((c .before .before .before .before .before .before .before .before .before .before .before .before .before .before) .pre .0 .ready _ _ ((c .before .before .before .before .before .check2) .given .1), (c .before .before .before .before .before .before .before .before .before .before .before .before .before .before) .pre .1)
+ask-checked-requires c κs = (c .before .before .before .before .before .before .before .before .before .before .before .before .before .before .pre .0 .ready _ _ (c .before .before .before .before .before .check2 .given .1), c .before .before .before .before .before .before .before .before .before .before .before .before .before .before .pre .1)
 
--- src/main.rt:89:1
 returns : tie.Need-returns
-returns c = put-refused ((c .before .before .before .before .before .before .before .before .before .before .before) .pre .0) _ ((c .before .before .check) .given .1) ((c .refuse) .ensures)
+returns c = put-refused (c .before .before .before .before .before .before .before .before .before .before .before .pre .0) _ (c .before .before .check .given .1) (c .refuse .ensures)
 
--- src/main.rt:89:1
 same-length : tie.Need-same-length
 same-length c = search needs
 
--- src/main.rt:89:1
 same-length-2 : tie.Need-same-length-2
 same-length-2 c = search needs
 
--- src/main.rt:89:1
 same-length-3 : tie.Need-same-length-3
 same-length-3 c = search needs
 
--- src/main.rt:89:1
 same-length-4 : tie.Need-same-length-4
 same-length-4 c = search needs
 
--- src/main.rt:89:1
 returns-2 : tie.Need-returns-2
-returns-2 c = put-accepted ((c .before .before .before .before .before .before .before .before .before .before .before .before .before .before .before .before .before .before .before .before .before .before .before) .pre .0) ((c .before .before .before .before .before .before .before .before .before .before .before .before .before .before .check2) .given .1) ((c .before .before .before .before .before .before .before .before .ask-checked) .ensures)
+returns-2 c = put-accepted (c .before .before .before .before .before .before .before .before .before .before .before .before .before .before .before .before .before .before .before .before .before .before .before .pre .0) (c .before .before .before .before .before .before .before .before .before .before .before .before .before .before .check2 .given .1) (c .before .before .before .before .before .before .before .before .ask-checked .ensures)
 
 pub ask-spec : {M : Type 1} → statement M
 ask-spec =

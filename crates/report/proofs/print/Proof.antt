@@ -1,16 +1,11 @@
-use lib.Seq.{length-sets, length-take-le}
-use lib.ListN.{length}
-use mathlib.Core.Path.{_≡_, ap, sym, _∙_}
+-- A line is within its buffer.
+use mathlib.Core.Path.{sym}
 use native.Mathlib.Omega.{arith}
+use lib.Seq.{length-sets, length-take-le}
 use borrow.Author.Needs.{needs}
 use Rattle.report.proofs.print.Statement.{statement}
 use Rattle.report.proofs.print.Tie as tie
-use Rattle.report.proofs.print.Reads as reads
-use Rattle.report.proofs.print.Lts as lts
-use Rattle.io.proofs.write_all.Reads as write-all-reads
-use Rattle.report.proofs.line_of.Reads as line-of-reads
 
--- src/main.rt:84:9
 line-of-requires : tie.Need-line-of-requires
 line-of-requires c κs = search needs
 
@@ -18,19 +13,15 @@ line-of-requires c κs = search needs
 room : tie.Need-array-share-prefix-line
 room c = rw (c .line-of .ensures .1 .0, length-sets) (omega (arith, c .line-of .ensures .1 .1))
 
--- src/main.rt:85:34
 array-share-prefix-line : tie.Need-array-share-prefix-line
 array-share-prefix-line = room
 
--- src/main.rt:85:34
 slice-aggregate-write-all : tie.Need-slice-aggregate-write-all
 slice-aggregate-write-all c = sym (length-take-le _ _ (room (c .before)))
 
--- src/main.rt:85:5
 write-all-requires : tie.Need-write-all-requires
 write-all-requires c κs = search needs
 
--- src/main.rt:82:1
 returns : tie.Need-returns
 returns c = search needs
 

@@ -1,42 +1,33 @@
+-- What `read` answers of the part, and that the bytes before the part stay.
 use Prim.Native.Nat.{_-_}
-use Rattle.values.proofs.Integers.{read-back}
-use mir.Syntax.{w64}
-use Rattle.libc.specs.Io.{Moved}
 use native.Mathlib.Nat.{le-refl}
 use lib.ListN.{length}
 use borrow.Rule.Slice.PartMut.{take-put, mid-len}
 use borrow.Author.Needs.{needs}
+use mir.Syntax.{w64}
+use Rattle.values.proofs.Integers.{read-back}
 use Rattle.report.proofs.read_at.Statement.{statement}
 use Rattle.report.proofs.read_at.Tie as tie
-use Rattle.report.proofs.read_at.Reads as reads
-use Rattle.report.proofs.read_at.Lts as lts
-use Rattle.libc.proofs.read.Reads as read-reads
 
--- src/main.rt:32:20
 sub-read : tie.Need-sub-read
 sub-read c = search needs
 
--- src/main.rt:32:20
 part-read-start : tie.Need-part-read-start
 part-read-start c = search needs
 
--- src/main.rt:32:20
 part-read-end : tie.Need-part-read-end
 part-read-end c = search needs
 
--- src/main.rt:32:5
 read-requires : tie.Need-read-requires
 read-requires c κs = search needs
 
--- src/main.rt:27:1
 same-length : tie.Need-same-length
 same-length c = search needs
 
--- src/main.rt:27:1
 returns : tie.Need-returns
-returns c = let at = (c .before .before .before .before .before .args) .at in
-    let bytes = (c .before .before .before .before .before .args) .bytes .now in
-    (rw (read-back w64 _ ((c .before .before .read) .ok)) (rw (mid-len at (length bytes) bytes (le-refl _)) at ((c .before .before .read) .ensures)), take-put at (length bytes - at) bytes ((c .before .before .read) .last .1 .0) ((c .before .before .before .before .before) .pre))
+returns c = let at = c .before .before .before .before .before .args .at in
+    let bytes = c .before .before .before .before .before .args .bytes .now in
+    (rw (read-back w64 _ (c .before .before .read .ok)) (rw (mid-len at (length bytes) bytes (le-refl _)) at (c .before .before .read .ensures)), take-put at (length bytes - at) bytes (c .before .before .read .last .1 .0) (c .before .before .before .before .before .pre))
 
 pub read-at-spec : {M : Type 1} → statement M
 read-at-spec =

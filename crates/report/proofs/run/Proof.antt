@@ -1,11 +1,9 @@
-use Rattle.report.proofs.Running.{Running}
+-- `Running` holds from turn to turn. The measure is the number of turns that are left.
+use mathlib.Core.Path.{refl, _∙_}
 use native.Mathlib.Omega.{arith}
-use mathlib.Core.Path.{_≡_, refl, _∙_}
+use Rattle.report.proofs.Running.{Running}
 use Rattle.report.proofs.run.Statement.{statement}
 use Rattle.report.proofs.run.Tie as tie
-use Rattle.report.proofs.run.Reads as reads
-use Rattle.report.proofs.run.Lts as lts
-use Rattle.report.proofs.turn.Reads as turn-reads
 
 abbrev Inv-loop : tie.InvT-loop
 Inv-loop check sheet index input₀ store₀ links₀ frames₀ forms₀ s₀ turns₀ input store links frames forms s turns = Running check sheet index input₀ store₀ links₀ frames₀ forms₀ input store links frames forms s
@@ -13,28 +11,23 @@ Inv-loop check sheet index input₀ store₀ links₀ frames₀ forms₀ s₀ tu
 abbrev μ-loop : tie.MeasureT-loop
 μ-loop check sheet index input₀ store₀ links₀ frames₀ forms₀ s₀ turns₀ input store links frames forms s turns = turns
 
--- src/main.rt:294:5
 loop-holds : tie.Need-loop-holds Inv-loop μ-loop
-loop-holds c = record { prepared = (c .before .before .before .before .before .before .before) .pre .0; within = omega arith; input-same = refl; store-same = refl; links-same = refl; frames-same = refl; forms-same = refl }
+loop-holds c = record { prepared = c .before .before .before .before .before .before .before .pre .0; within = omega arith; input-same = refl; store-same = refl; links-same = refl; frames-same = refl; forms-same = refl }
 
--- src/main.rt:295:9
 turn-requires : tie.Need-turn-requires Inv-loop μ-loop
-turn-requires c κs = let r = (c .before .before .before .before .before .before .before .loop) .inv in
-    let p = (c .before .before .before .before .before .before .before .before .before .before .before .before .before .before .before) .pre in
+turn-requires c κs = let r = c .before .before .before .before .before .before .before .loop .inv in
+    let p = c .before .before .before .before .before .before .before .before .before .before .before .before .before .before .before .pre in
     (r .prepared, ((r .within .0, r .within .1, omega (arith, r .input-same, p .1 .0)), (r .frames-same ∙ p .1 .1 .0, r .forms-same ∙ p .1 .1 .1)))
 
--- src/main.rt:296:9
 sub-turns : tie.Need-sub-turns Inv-loop μ-loop
-sub-turns c = omega (arith, (c .before .before .before .before .before .before .before .before .before .before .before .before .before .before .before .before .before .loop-test) .taken)
+sub-turns c = omega (arith, c .before .before .before .before .before .before .before .before .before .before .before .before .before .before .before .before .before .loop-test .taken)
 
--- src/main.rt:294:5
 loop-less : tie.Need-loop-less Inv-loop μ-loop
-loop-less c = omega (arith, (c .before .before .before .before .before .before .before .before .before .before .before .before .before .before .before .before .before .loop-test) .taken)
+loop-less c = omega (arith, c .before .before .before .before .before .before .before .before .before .before .before .before .before .before .before .before .before .loop-test .taken)
 
--- src/main.rt:294:5
 loop-again : tie.Need-loop-again Inv-loop μ-loop
-loop-again c = let r = (c .before .before .before .before .before .before .before .before .before .before .before .before .before .before .before .before .before .before .loop) .inv in
-    let t = (c .before .before .before .before .before .before .before .before .before .before .turn) in
+loop-again c = let r = c .before .before .before .before .before .before .before .before .before .before .before .before .before .before .before .before .before .before .loop .inv in
+    let t = c .before .before .before .before .before .before .before .before .before .before .turn in
     record {
       prepared = t .ensures .0;
       within = t .ensures .1 .0;
@@ -45,51 +38,39 @@ loop-again c = let r = (c .before .before .before .before .before .before .befor
       forms-same = t .kept .1 .1 .1 .1 .1 .1 .1 .0 ∙ r .forms-same;
     }
 
--- src/main.rt:272:1
 same-length : tie.Need-same-length Inv-loop μ-loop
-same-length c = (c .before .before .loop) .inv .input-same
+same-length c = c .before .before .loop .inv .input-same
 
--- src/main.rt:272:1
 same-length-2 : tie.Need-same-length-2 Inv-loop μ-loop
-same-length-2 c = (c .before .before .loop) .inv .store-same
+same-length-2 c = c .before .before .loop .inv .store-same
 
--- src/main.rt:272:1
 same-length-3 : tie.Need-same-length-3 Inv-loop μ-loop
-same-length-3 c = (c .before .before .loop) .inv .links-same
+same-length-3 c = c .before .before .loop .inv .links-same
 
--- src/main.rt:272:1
 same-length-4 : tie.Need-same-length-4 Inv-loop μ-loop
-same-length-4 c = (c .before .before .loop) .inv .frames-same
+same-length-4 c = c .before .before .loop .inv .frames-same
 
--- src/main.rt:272:1
 same-length-5 : tie.Need-same-length-5 Inv-loop μ-loop
-same-length-5 c = (c .before .before .loop) .inv .forms-same
+same-length-5 c = c .before .before .loop .inv .forms-same
 
--- src/main.rt:272:1
 returns : tie.Need-returns Inv-loop μ-loop
 returns c = tt
 
--- src/main.rt:272:1
 same-length-6 : tie.Need-same-length-6 Inv-loop μ-loop
-same-length-6 c = (c .before .loop) .inv .input-same
+same-length-6 c = c .before .loop .inv .input-same
 
--- src/main.rt:272:1
 same-length-7 : tie.Need-same-length-7 Inv-loop μ-loop
-same-length-7 c = (c .before .loop) .inv .store-same
+same-length-7 c = c .before .loop .inv .store-same
 
--- src/main.rt:272:1
 same-length-8 : tie.Need-same-length-8 Inv-loop μ-loop
-same-length-8 c = (c .before .loop) .inv .links-same
+same-length-8 c = c .before .loop .inv .links-same
 
--- src/main.rt:272:1
 same-length-9 : tie.Need-same-length-9 Inv-loop μ-loop
-same-length-9 c = (c .before .loop) .inv .frames-same
+same-length-9 c = c .before .loop .inv .frames-same
 
--- src/main.rt:272:1
 same-length-10 : tie.Need-same-length-10 Inv-loop μ-loop
-same-length-10 c = (c .before .loop) .inv .forms-same
+same-length-10 c = c .before .loop .inv .forms-same
 
--- src/main.rt:272:1
 returns-2 : tie.Need-returns-2 Inv-loop μ-loop
 returns-2 c = tt
 

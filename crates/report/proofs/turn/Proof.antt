@@ -1,130 +1,97 @@
-use Rattle.report.proofs.Turns.{more-room, question-within, question-bytes, question-rest, more-hand, more-ended, chunk, by-next}
-use Rattle.report.proofs.Turns.{question-within, question-bytes, question-rest, more-hand, more-ended, chunk, by-next}
-use Rattle.report.specs.Report.{after, lent, a-question, a-cut, the-end, more}
-use lib.ListN.{length}
-use Prim.Native.Nat.{ℕ, _≤_}
-use mathlib.Core.Path.{_≡_, refl, sym, ap, _∙_, ap₂}
-use mathlib.Core.List.{List}
-use Rattle.report.proofs.Turns.{question-within, question-bytes, question-rest, more-hand, more-ended}
+-- One way for each answer of `next_item`, by the laws of Turns.antt.
+use mathlib.Core.Path.{refl, sym, ap, _∙_}
+use Prim.Native.Nat.{_≤_}
 use native.Mathlib.Omega.{arith}
-use mathlib.Core.Path.{_≡_, refl, sym, ap, _∙_}
+use lib.ListN.{length}
 use borrow.Author.Needs.{needs}
+use Rattle.report.proofs.Turns.{more-room, question-within, question-bytes, question-rest, more-hand, more-ended, chunk, by-next}
+use Rattle.report.specs.Report.{after, lent, a-question, a-cut, the-end, more}
 use Rattle.report.proofs.turn.Statement.{statement}
 use Rattle.report.proofs.turn.Tie as tie
-use Rattle.report.proofs.turn.Reads as reads
-use Rattle.report.proofs.turn.Lts as lts
-use Rattle.report.proofs.answer.Reads as answer-reads
-use Rattle.report.proofs.read_on.Reads as read-on-reads
-use Rattle.stream.proofs.next_item.Reads as next-item-reads
 
 within : (c : tie.Start) → (c .args .s .from ≤ c .args .s .to) × (c .args .s .to ≤ length (c .args .input .now))
 within c = let b = c .pre .1 .0 in (b .0, b .1)
 
--- src/main.rt:207:29
 sub-next-item : tie.Need-sub-next-item
 sub-next-item c = search needs
 
--- src/main.rt:207:29
 part-next-item-start : tie.Need-part-next-item-start
 part-next-item-start c = search needs
 
--- src/main.rt:207:29
 part-next-item-end : tie.Need-part-next-item-end
 part-next-item-end c = search needs
 
--- src/main.rt:207:11
 next-item-requires : tie.Need-next-item-requires
 next-item-requires c κs = search needs
 
--- src/main.rt:208:24
 enum-known-n : tie.Need-enum-known-n
 enum-known-n c = search needs
 
--- src/main.rt:209:22
 add-at : tie.Need-add-at
 add-at c = search needs
 
--- src/main.rt:210:23
 add-end : tie.Need-add-end
-add-end c = omega (arith, question-within _ _ _ (within (c .before .before .before .before .before .before .before .before .before .before .before .before .before)) _ ((c .before .n) .given .0 .0) (sym ((c .before .n) .given .1) ∙ (c .before .before .before .next-item) .ensures .0))
+add-end c = omega (arith, question-within _ _ _ (within (c .before .before .before .before .before .before .before .before .before .before .before .before .before)) _ (c .before .n .given .0 .0) (sym (c .before .n .given .1) ∙ c .before .before .before .next-item .ensures .0))
 
--- src/main.rt:215:17
 sub-answer : tie.Need-sub-answer
 sub-answer c = search needs
 
--- src/main.rt:215:17
 part-answer-start : tie.Need-part-answer-start
 part-answer-start c = search needs
 
--- src/main.rt:215:17
 part-answer-end : tie.Need-part-answer-end
-part-answer-end c = omega (arith, question-within _ _ _ (within (c .before .before .before .before .before .before .before .before .before .before .before .before .before .before)) _ ((c .before .before .n) .given .0 .0) (sym ((c .before .before .n) .given .1) ∙ (c .before .before .before .before .next-item) .ensures .0))
+part-answer-end c = omega (arith, question-within _ _ _ (within (c .before .before .before .before .before .before .before .before .before .before .before .before .before .before)) _ (c .before .before .n .given .0 .0) (sym (c .before .before .n .given .1) ∙ c .before .before .before .before .next-item .ensures .0))
 
--- src/main.rt:211:17
 answer-requires : tie.Need-answer-requires
 answer-requires c κs = search needs
 
--- src/main.rt:235:17
 enum-told : tie.Need-enum-told
 enum-told c = search needs
 
--- src/main.rt:235:17
 slice-reshare-prefix-answer : tie.Need-slice-reshare-prefix-answer
 slice-reshare-prefix-answer c = search needs
 
--- src/main.rt:235:17
 slice-aggregate-answer : tie.Need-slice-aggregate-answer
 slice-aggregate-answer c = search needs
 
--- src/main.rt:231:17
 answer-requires-2 : tie.Need-answer-requires-2
 answer-requires-2 c κs = search needs
 
--- src/main.rt:250:22
 enum-told-2 : tie.Need-enum-told-2
 enum-told-2 c = search needs
 
--- src/main.rt:258:31
 enum-told-3 : tie.Need-enum-told-3
 enum-told-3 c = search needs
 
--- src/main.rt:258:17
 read-on-requires : tie.Need-read-on-requires
 read-on-requires c κs = let w = within (c .before .before .before .before .before .before .before .before .before .before .before .before .before) in
-    (w .0, w .1, more-room _ _ _ w ((c .before .before .before .next-item) .ensures .1 ((c .before .enum-told3) .given .1)) ((c .before .before .before .before .before .before .before .before .before .before .before .before .before) .pre .1 .0 .2))
+    (w .0, w .1, more-room _ _ _ w (c .before .before .before .next-item .ensures .1 (c .before .enum-told3 .given .1)) (c .before .before .before .before .before .before .before .before .before .before .before .before .before .pre .1 .0 .2))
 
--- src/main.rt:263:31
 sub-t50 : tie.Need-sub-t50
 sub-t50 c = search needs
 
--- src/main.rt:186:1
 same-length : tie.Need-same-length
 same-length c = search needs
 
--- src/main.rt:186:1
 same-length-2 : tie.Need-same-length-2
 same-length-2 c = search needs
 
--- src/main.rt:186:1
 same-length-3 : tie.Need-same-length-3
 same-length-3 c = search needs
 
--- src/main.rt:186:1
 same-length-4 : tie.Need-same-length-4
 same-length-4 c = search needs
 
--- src/main.rt:186:1
 same-length-5 : tie.Need-same-length-5
 same-length-5 c = search needs
 
--- src/main.rt:186:1
 returns : tie.Need-returns
-returns c = let s = (c .before .before .before .before .before .before .before .before .before .before .before .before .before .before .before .before .before .before .before .before .before .before .before .before .before .before .before .before) in
+returns c = let s = c .before .before .before .before .before .before .before .before .before .before .before .before .before .before .before .before .before .before .before .before .before .before .before .before .before .before .before .before in
     let input = s .args .input .now in
     let m = s .args .s in
-    let n = (c .before .before .before .before .before .before .before .before .before .before .before .before .before .before .before .before .n) .given .0 .0 in
-    let e = sym ((c .before .before .before .before .before .before .before .before .before .before .before .before .before .before .before .before .n) .given .1) ∙ (c .before .before .before .before .before .before .before .before .before .before .before .before .before .before .before .before .before .before .next-item) .ensures .0 in
-    let a = (c .before .before .before .before .before .before .before .before .answer) .ensures in
+    let n = c .before .before .before .before .before .before .before .before .before .before .before .before .before .before .before .before .n .given .0 .0 in
+    let e = sym (c .before .before .before .before .before .before .before .before .before .before .before .before .before .before .before .before .n .given .1) ∙ c .before .before .before .before .before .before .before .before .before .before .before .before .before .before .before .before .before .before .next-item .ensures .0 in
+    let a = c .before .before .before .before .before .before .before .before .answer .ensures in
     let w = within s in (
       a .0,
       (
@@ -135,52 +102,42 @@ returns c = let s = (c .before .before .before .before .before .before .before .
       ),
     )
 
--- src/main.rt:186:1
 same-length-6 : tie.Need-same-length-6
 same-length-6 c = search needs
 
--- src/main.rt:186:1
 same-length-7 : tie.Need-same-length-7
 same-length-7 c = search needs
 
--- src/main.rt:186:1
 same-length-8 : tie.Need-same-length-8
 same-length-8 c = search needs
 
--- src/main.rt:186:1
 same-length-9 : tie.Need-same-length-9
 same-length-9 c = search needs
 
--- src/main.rt:186:1
 same-length-10 : tie.Need-same-length-10
 same-length-10 c = search needs
 
--- src/main.rt:186:1
 returns-2 : tie.Need-returns-2
-returns-2 c = let e = sym ((c .before .before .before .before .before .before .before .before .before .before .before .before .before .before .enum-told) .given .1) ∙ (c .before .before .before .before .before .before .before .before .before .before .before .before .before .before .before .before .next-item) .ensures .0 in
-    let a = (c .before .before .before .before .before .before .before .before .answer2) .ensures in
+returns-2 c = let e = sym (c .before .before .before .before .before .before .before .before .before .before .before .before .before .before .enum-told .given .1) ∙ c .before .before .before .before .before .before .before .before .before .before .before .before .before .before .before .before .next-item .ensures .0 in
+    let a = c .before .before .before .before .before .before .before .before .answer2 .ensures in
     (a .0, (within (c .before .before .before .before .before .before .before .before .before .before .before .before .before .before .before .before .before .before .before .before .before .before .before .before .before .before), by-next e (a-cut refl (a .1))))
 
--- src/main.rt:186:1
 same-length-11 : tie.Need-same-length-11
 same-length-11 c = search needs
 
--- src/main.rt:186:1
 returns-3 : tie.Need-returns-3
-returns-3 c = let e = sym ((c .enum-told2) .given .1) ∙ (c .before .before .next-item) .ensures .0 in
-    ((c .before .before .before .before .before .before .before .before .before .before .before .before) .pre .0, (within (c .before .before .before .before .before .before .before .before .before .before .before .before), by-next e (the-end refl refl)))
+returns-3 c = let e = sym (c .enum-told2 .given .1) ∙ c .before .before .next-item .ensures .0 in
+    (c .before .before .before .before .before .before .before .before .before .before .before .before .pre .0, (within (c .before .before .before .before .before .before .before .before .before .before .before .before), by-next e (the-end refl refl)))
 
--- src/main.rt:186:1
 same-length-12 : tie.Need-same-length-12
 same-length-12 c = search needs
 
--- src/main.rt:186:1
 returns-4 : tie.Need-returns-4
-returns-4 c = let s = (c .before .before .before .before .before .before .before .before .before .before .before .before .before .before .before .before) in
+returns-4 c = let s = c .before .before .before .before .before .before .before .before .before .before .before .before .before .before .before .before in
     let input = s .args .input .now in
     let m = s .args .s in
-    let e = sym ((c .before .before .before .before .enum-told3) .given .1) ∙ (c .before .before .before .before .before .before .next-item) .ensures .0 in
-    let r = (c .before .before .read-on) in
+    let e = sym (c .before .before .before .before .enum-told3 .given .1) ∙ c .before .before .before .before .before .before .next-item .ensures .0 in
+    let r = c .before .before .read-on in
     let left = r .last .0 in
     let w = within s in (
       s .pre .0,
