@@ -24,7 +24,7 @@ pub enum Verdict {
     Accepted(usize, usize),
 }
 
-fn check_question(
+pub fn check_question(
     sheet: &[u8],
     attributes: usize,
     nodes: usize,

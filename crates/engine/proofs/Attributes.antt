@@ -269,7 +269,7 @@ module _ {sheet index question : List ℕ} {attributes : ℕ} {mem : Memory} {m 
     form-frames : framesIn sheet question (mem .words) (mem .forms) (m .frames) (m .forms) ≡ on-form o (formRest sheet question (mem .forms) k) ∷ below k
     form-frames = innermost-frame sheet question (mem .words) (mem .forms) (m .frames) (m .forms) framed ∙ rw (eq-eqb (word % 8) 6 is-form)
 
-    form-counted : suc (length (openForms (below k))) ≡ m .forms
+    pub form-counted : suc (length (openForms (below k))) ≡ m .forms
     unfolding openForms
     form-counted = rw form-frames at (r .holds .counted)
 
@@ -353,7 +353,7 @@ module _ {sheet index question : List ℕ} {attributes : ℕ} {mem : Memory} {m 
     unfolding openForms
     under-counted = rw parameter-frames at (r .holds .counted)
 
-    parameter-typed : (a < attributeCount s) × IsA (nodeCount s) nodeT held × IsA (nodeCount s) (attributeAt (s .attributes) a .parameter-type) (m .value)
+    pub parameter-typed : (a < attributeCount s) × IsA (nodeCount s) nodeT held × IsA (nodeCount s) (attributeAt (s .attributes) a .parameter-type) (m .value)
     unfolding machineOf plug
     parameter-typed =
         let t = attr-in (plug-in s under _ _ (value-typed (on-parameter held a ∷ under) parameter-frames) .1) in
@@ -365,7 +365,7 @@ module _ {sheet index question : List ℕ} {attributes : ℕ} {mem : Memory} {m 
       at-frame = move-gives s capacity budget M (m .value) _ mode-is parameter-frames
 
       module _ (no-null : eqb (nodeOf held) null ≡ false) (left : m .steps < budget) (few : m .forms < 64) where
-        due-in : OccurrenceIn (nodeCount s) (s .attributes) due
+        pub due-in : OccurrenceIn (nodeCount s) (s .attributes) due
         due-in = record { node-declared = declared (parameter-typed .1) no-null; attribute-declared = parameter-typed .0; parameter-in = parameter-typed .2 }
 
         takes-next : {next : Machine} → applied s capacity budget M due under (kept entries due) ≡ next → Next s capacity budget M next
@@ -398,7 +398,7 @@ module _ {sheet index question : List ℕ} {attributes : ℕ} {mem : Memory} {m 
               rw (written .same-length) room,
             )
 
-        attribute-is : attributeAt (s .attributes) a ≡ attributeIn sheet a
+        pub attribute-is : attributeAt (s .attributes) a ≡ attributeIn sheet a
         attribute-is = attribute-by-index sheet s index (r .index-of) a (parameter-typed .0)
 
         by-definition : kept entries due ≡ none → (d : Definition) → definition s (nodeOf held) a ≡ d
@@ -406,7 +406,7 @@ module _ {sheet index question : List ℕ} {attributes : ℕ} {mem : Memory} {m 
         unfolding applied
         by-definition absent d e = rw (absent, e)
 
-        definition-at : definition s (nodeOf held) a
+        pub definition-at : definition s (nodeOf held) a
             ≡ figured (indexed (getD index (figurePlace (nodeOf held) a) 0) (figureAt sheet a)) (ruled (indexed (ruleIndex sheet index attributes (nodeOf held) a) (pieceAt sheet)))
         definition-at = rw (r .attributes-are) at (definition-by-index sheet s index (r .index-of) (nodeOf held) a (due-in .node-declared) (due-in .attribute-declared))
 

@@ -35,14 +35,14 @@ use Rattle.engine.specs.Decode.{sheetIn, sheetOf, entriesOf, framesIn, m
 use Rattle.engine.specs.Steps.{Memory, Stepped, goes, waits, stepOf}
 use Rattle.engine.specs.Steps as Steps
 use Rattle.engine.specs.declared.Registers.{Registers}
-use Rattle.engine.specs.Represents.{machineIn, HoldsIn, Represents, Matches, WidthOf, Packs}
+use Rattle.engine.specs.Represents.{machineIn, HoldsIn, Represents, Matches, WidthOf, PacksIn}
 use Rattle.engine.specs.Loop.{Invariant, started, Final}
 use Rattle.engine.proofs.Whole.{step-whole}
 use Rattle.engine.proofs.Left.{store-moves, left-on}
 
 -- ---- The start
 
-question-short : (s : Sheet) (q : List ℕ) (e : Expr) → checkQuestion s q ≡ accepted e → length q ≤ 256
+pub question-short : (s : Sheet) (q : List ℕ) (e : Expr) → checkQuestion s q ≡ accepted e → length q ≤ 256
 unfolding checkQuestion checkType readWhole
 question-short s q e h = go (leb (length q) 256) _ refl h
   where
@@ -204,7 +204,7 @@ module _ {sheet index question : List ℕ} {attributes budget : ℕ} {first : Li
         store-is = rw is (inv .left);
       }
 
-  module _ (limit skip packed : ℕ) (width : WidthOf (restOf sheet question (m .forms) (m .at) (m .end)) skip) (packs : Packs (m .value) packed) where
+  module _ (limit skip packed : ℕ) (width : WidthOf (restOf sheet question (m .forms) (m .at) (m .end)) skip) (packs : PacksIn mem m packed) where
     abbrev step : Stepped
     step = stepOf sheet index attributes question budget limit skip packed mem m
 
@@ -242,8 +242,8 @@ module _ {sheet index question : List ℕ} {attributes budget : ℕ} {first : Li
       pub invariant-falls : measure budget (machineIn sheet question mem′ m′) < measure budget M
       invariant-falls = move-falls rules (r .good) (matches e .0)
 
-    pub invariant-waits : limit ≡ budget → step ≡ waits → ⊥
-    invariant-waits f e = let (reached, left) = matches e in omega arith
+    pub invariant-waits : step ≡ waits → (limit ≤ m .steps) × (m .steps < budget)
+    invariant-waits e = matches e
 
     pub invariant-finishes : step ≡ Steps.finishes → Final first lent whole (with-value (m .value)) mem m
     invariant-finishes e = ended (with-value (m .value)) (runs-on s capacity budget rules M (r .good) (matches e) runs)

@@ -29,7 +29,7 @@ use Rattle.engine.proofs.Steps.{Fits, head-fits, inside-form}
 use Rattle.engine.proofs.Attributes.{plug-in, form-in}
 
 -- a word of a type on a sheet of so many nodes is one on a larger
-word-more : {nodes more : ℕ} (B : Base) (w : ℕ) → nodes ≤ more → isWord nodes B w ≡ true → isWord more B w ≡ true
+pub word-more : {nodes more : ℕ} (B : Base) (w : ℕ) → nodes ≤ more → isWord nodes B w ≡ true → isWord more B w ≡ true
 unfolding isWord
 word-more unitT w n h = h
 word-more boolT w n h = h

@@ -30,7 +30,7 @@ use Rattle.machine.specs.Good.{Parses, Ready, GoodAt}
 use Rattle.machine.proofs.Bounds.{frames-fit, room-to-push}
 use Rattle.machine.specs.Machine.{Next, by-move, by-step}
 use Rattle.machine.proofs.Heads.{none-inside}
-use Rattle.engine.specs.Represents.{machineIn, HoldsIn, Represents, Matches, WidthOf, Packs}
+use Rattle.engine.specs.Represents.{machineIn, HoldsIn, Represents, Matches, WidthOf, Packs, PacksIn}
 use Rattle.engine.proofs.Words.{by-test, WordOf, if-kind, left-kind, skip-kind, right-kind, node-kind, right-word, node-word, parameter-word, pushed-frame, top-frame, turned-frame, frames-count, innermost-form, rest-on, rest-length, rest-inside, rest-behind}
 
 -- ---- What reading has tested behind a head
@@ -282,15 +282,15 @@ module _ (sheet question : List ℕ) (budget limit : ℕ) (mem : Memory) (m : Re
               let (inside, rest) = passed (ready e .0) in
               counts CondFalse _ (is-given e ∙ rw t) λ on. pops false (m .at + skip) (m .steps + 1) (m .value) inside rest (rw e) (rw add-one (by-step CondFalse on))
 
-          give-matches : (packed : ℕ) → Packs (m .value) packed → AttributeMatches index attributes → CloseMatches
+          give-matches : (packed : ℕ) → PacksIn mem m packed → AttributeMatches index attributes → CloseMatches
               → Matched (Steps.give sheet index attributes budget limit skip packed mem m word)
           unfolding Steps.give give modeOf openForms machineOf
           give-matches packed packs attribute close =
               by-test Matched (eqb (word % 8) 0) (λ t. if-matches (top (if-kind word (eqb-true _ _ t))) (truth (m .value)) refl) λ no-if.
-              by-test Matched (eqb (word % 8) 1) (λ t. left (top (left-kind word (eqb-true _ _ t)))) λ no-left.
+              by-test Matched (eqb (word % 8) 1) (λ t. left (packs gives some .0 (eqb-true _ _ t)) (top (left-kind word (eqb-true _ _ t)))) λ no-left.
               by-test Matched (eqb (word % 8) 2) (λ t. skips (top (skip-kind word (eqb-true _ _ t)))) λ no-skip.
               by-test Matched (eqb (word % 8) 3) (λ t. right (top (right-kind word (eqb-true _ _ t)))) λ no-right.
-              by-test Matched (eqb (word % 8) 4) (λ t. node-given (top (node-kind word (eqb-true _ _ t)))) λ no-node.
+              by-test Matched (eqb (word % 8) 4) (λ t. node-given (packs gives some .1 (eqb-true _ _ t)) (top (node-kind word (eqb-true _ _ t)))) λ no-node.
               by-test Matched (eqb (word % 8) 6) (λ t. close gives some (eqb-true _ _ t)) λ no-form.
               attribute gives some (late no-if no-left no-skip no-right no-node) (eqb-false _ _ no-form)
             where
@@ -304,8 +304,8 @@ module _ (sheet question : List ℕ) (budget limit : ℕ) (mem : Memory) (m : Re
                   let no-node : word % 8 ≡ 4 → ⊥ = eqb-false _ _ e in
                   omega arith
 
-              left : frames ≡ on-left ∷ below → Matched (goes (turned m) (writeWord mem (m .frames - 1) (3 + 8 * packed)))
-              left e = turns (m .steps) (right-word packs) (rw e) (by-move (is-given e))
+              left : Packs (m .value) packed → frames ≡ on-left ∷ below → Matched (goes (turned m) (writeWord mem (m .frames - 1) (3 + 8 * packed)))
+              left value e = turns (m .steps) (right-word value) (rw e) (by-move (is-given e))
 
               skips : frames ≡ on-skip ∷ below → Matched (goes (registersAfter true (m .at + skip) (m .frames - 1) (m .steps) (m .value)) mem)
               skips e =
@@ -317,14 +317,14 @@ module _ (sheet question : List ℕ) (budget limit : ℕ) (mem : Memory) (m : Re
               right e =
                   counts AppApp _ (is-given e) λ on. pops true (m .at) (m .steps + 1) _ (r .holds .from) refl (rw e) (rw add-one (by-step AppApp on))
 
-              node-given : frames ≡ on-node (word / 8 % 32) ∷ below
+              node-given : Packs (m .value) packed → frames ≡ on-node (word / 8 % 32) ∷ below
                   → Matched (goes (turned m) (writeWord mem (m .frames - 1) (5 + 8 * (word / 8 % 32 + 32 * packed))))
-              node-given e = turns (m .steps) (parameter-word (mod-lt _ (lit< tt)) packs) (rw e) (by-move (is-given e))
+              node-given value e = turns (m .steps) (parameter-word (mod-lt _ (lit< tt)) value) (rw e) (by-move (is-given e))
 
 -- ---- A move
 
 pub step-matches : (sheet index question : List ℕ) (attributes budget limit skip packed : ℕ) (mem : Memory) (m : Registers)
-    → Represents sheet index question attributes mem m → WidthOf (restOf sheet question (m .forms) (m .at) (m .end)) skip → Packs (m .value) packed
+    → Represents sheet index question attributes mem m → WidthOf (restOf sheet question (m .forms) (m .at) (m .end)) skip → PacksIn mem m packed
     → AttributeMatches sheet question budget limit mem m index attributes → CloseMatches sheet question budget limit mem m
     → Matches sheet question (length (mem .store) / 12) budget limit m (machineIn sheet question mem m)
     (stepOf sheet index attributes question budget limit skip packed mem m)

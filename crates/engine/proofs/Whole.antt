@@ -7,13 +7,13 @@ use Rattle.pieces.specs.Pieces.{restOf}
 use Rattle.engine.specs.Decode.{sheetOf}
 use Rattle.engine.specs.Steps.{Memory, stepOf}
 use Rattle.engine.specs.declared.Registers.{Registers}
-use Rattle.engine.specs.Represents.{machineIn, Represents, Matches, WidthOf, Packs}
+use Rattle.engine.specs.Represents.{machineIn, Represents, Matches, WidthOf, PacksIn}
 use Rattle.engine.proofs.Attributes.{attribute-matches, close-matches}
 use Rattle.engine.proofs.Kept.{by-key}
 use Rattle.engine.proofs.Steps.{step-matches}
 
 pub step-whole : (sheet index question : List ℕ) (attributes budget limit skip packed : ℕ) (mem : Memory) (m : Registers)
-    → Represents sheet index question attributes mem m → WidthOf (restOf sheet question (m .forms) (m .at) (m .end)) skip → Packs (m .value) packed
+    → Represents sheet index question attributes mem m → WidthOf (restOf sheet question (m .forms) (m .at) (m .end)) skip → PacksIn mem m packed
     → Matches sheet question (length (mem .store) / 12) budget limit m (machineIn sheet question mem m)
     (stepOf sheet index attributes question budget limit skip packed mem m)
 step-whole sheet index question attributes budget limit skip packed mem m r width packs =

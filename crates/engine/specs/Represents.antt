@@ -1,8 +1,9 @@
 -- What registers and lent memory must hold for a move of the code to be a move of the machine, and what is then the same.
+use mathlib.Core.Bool.{true}
 use mathlib.Core.List.{List}
 use mathlib.Core.Path.{_≡_}
-use Prim.Native.Nat.{ℕ, _+_, _*_, _/_, _≤_, _<_}
-use lib.ListN.{length}
+use Prim.Native.Nat.{ℕ, _+_, _*_, _-_, _/_, _%_, _≤_, _<_}
+use lib.ListN.{length, getD}
 use Rattle.specs.specs.Values.{Base, base}
 use Rattle.specs.specs.declared.Value.{Value}
 use Rattle.specs.specs.Expressions.{Expr, Scope, reads, readExpr}
@@ -54,3 +55,9 @@ WidthOf l skip = (sc : Scope) (f : Expr) (w : ℕ) → readExpr sc (length l) l 
 -- a value in a word
 abbrev pub Packs : Value → ℕ → Type 0
 Packs v p = (valueIn p ≡ v) × (p < 68719476736)
+
+-- where a value is given to an application's or an attribute's frame, which is made one that holds it
+abbrev pub PacksIn : Memory → Registers → ℕ → Type 0
+PacksIn mem m p =
+    let kind = getD (mem .words) (m .frames - 1) 0 % 8 in
+    m .returning ≡ true → 0 < m .frames → (kind ≡ 1 → Packs (m .value) p) × (kind ≡ 4 → Packs (m .value) p)

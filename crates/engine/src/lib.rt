@@ -72,7 +72,7 @@ fn pushed(m: Registers, w: usize) -> Registers
 }
 
 // The registers after a counted step that pops a frame and has a value.
-fn answered(m: Registers, kept: usize, v: Value) -> Registers
+pub fn answered(m: Registers, kept: usize, v: Value) -> Registers
     requires { ⌜ (1 ≤ m .frames) × (m .steps + 1 < 2 ^ 64) ⌝ }
     ensures { λ r. ⌜ r ≡ answeredBy m kept v ⌝ }
 {
@@ -124,7 +124,13 @@ fn this_parameter(sheet: &[u8], forms: &[u32], m: Registers) -> Value
 }
 
 // A head is read, with its operand. `e` is the rest of the running piece.
-fn read_head(sheet: &[u8], e: &[u8], frames: &mut [u64], forms: &[u32], m: Registers) -> Registers
+pub fn read_head(
+    sheet: &[u8],
+    e: &[u8],
+    frames: &mut [u64],
+    forms: &[u32],
+    m: Registers,
+) -> Registers
     requires { ⌜ ReadReady (now sheet) (now e) (now frames) (now forms) m ⌝ }
     ensures { λ r. ⌜ ((index : List ℕ) (attributes : ℕ) (store : List ℕ)
         → goes r (memoryOf store (now (frames .exit)) (now (forms .entry)))
@@ -159,7 +165,7 @@ fn read_head(sheet: &[u8], e: &[u8], frames: &mut [u64], forms: &[u32], m: Regis
 // ---- A value is given to the innermost frame
 
 // An application's function: its argument comes next.
-fn take_left(frames: &mut [u64], m: Registers) -> Registers
+pub fn take_left(frames: &mut [u64], m: Registers) -> Registers
     requires { ⌜ (1 ≤ m .frames) × (m .frames ≤ length (now frames)) ⌝ }
     ensures { λ r. ⌜ r ≡ turnedTo m ⌝ }
     ensures { λ r. ⌜ Rewrites m (now (frames .entry)) (now (frames .exit)) (λ packed. 3 + 8 * packed) ⌝ }
@@ -171,7 +177,7 @@ fn take_left(frames: &mut [u64], m: Registers) -> Registers
 }
 
 // An attribute's node: the parameter comes next. `a` is the attribute's number.
-fn take_node(frames: &mut [u64], m: Registers, a: u64) -> Registers
+pub fn take_node(frames: &mut [u64], m: Registers, a: u64) -> Registers
     requires { ⌜ (1 ≤ m .frames) × (m .frames ≤ length (now frames)) × (a < 32) ⌝ }
     ensures { λ r. ⌜ r ≡ turnedTo m ⌝ }
     ensures { λ r. ⌜ Rewrites m (now (frames .entry)) (now (frames .exit)) (λ packed. 5 + 8 * (a + 32 * packed)) ⌝ }
@@ -183,7 +189,7 @@ fn take_node(frames: &mut [u64], m: Registers, a: u64) -> Registers
 }
 
 // The value of the branch that was taken: the other is passed over. `e` is the rest of the running piece.
-fn take_skip(e: &[u8], m: Registers) -> Registers
+pub fn take_skip(e: &[u8], m: Registers) -> Registers
     requires { ⌜ Starts (now e) ⌝ }
     requires { ⌜ (1 ≤ m .frames) × (m .at + length (now e) < 2 ^ 64) ⌝ }
     ensures { λ r. ⌜ Passes (now (e .entry)) (λ skip. r ≡ skipped m skip) ⌝ }
@@ -202,7 +208,7 @@ fn take_skip(e: &[u8], m: Registers) -> Registers
 }
 
 // IF: the first branch is evaluated and the second passed over after it, or the first is passed over.
-fn take_if(e: &[u8], frames: &mut [u64], m: Registers) -> Registers
+pub fn take_if(e: &[u8], frames: &mut [u64], m: Registers) -> Registers
     requires { ⌜ Starts (now e) ⌝ }
     requires { ⌜ (1 ≤ m .frames) × (m .frames ≤ length (now frames)) × (m .at + length (now e) < 2 ^ 64) × (m .steps + 1 < 2 ^ 64) ⌝ }
     ensures { λ r. ⌜ Passes (now (e .entry)) (λ skip. (store forms : List ℕ)
@@ -237,7 +243,7 @@ fn take_if(e: &[u8], frames: &mut [u64], m: Registers) -> Registers
 }
 
 // AppApp: the function that the frame's word holds is applied.
-fn take_right(m: Registers, w: u64) -> Registers
+pub fn take_right(m: Registers, w: u64) -> Registers
     requires { ⌜ (1 ≤ m .frames) × (m .steps + 1 < 2 ^ 64) ⌝ }
     ensures { λ r. ⌜ r ≡ answeredBy m (m .kept) (applied (valueIn (w / 8 % 68719476736)) (m .value)) ⌝ }
 {

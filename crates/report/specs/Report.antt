@@ -5,29 +5,29 @@ use mathlib.Core.Path.{_≡_}
 use Prim.Native.Nat.{ℕ, _+_, _-_}
 use lib.Dec.{eqb}
 use lib.ListN.{length, take, drop}
-use Rattle.specs.specs.Sheet.{checkSheet}
-use Rattle.specs.specs.Calls.{Lent, leaves}
-use Rattle.sheets.specs.Scan.{checkOf}
+use Rattle.specs.specs.Ask.{ask}
+use Rattle.specs.specs.Calls.{Lent, leaves, call}
+use Rattle.sheets.specs.Scan.{Checks}
 use Rattle.sheets.specs.declared.SheetCheck.{SheetCheck}
 use Rattle.sheets.specs.declared.SheetCheck.the-variants.{Accepted}
 use Rattle.checks.specs.Answers.{answerOf}
-use Rattle.checks.specs.declared.Answer as Declared
-use Rattle.standin.specs.Asked.{asked, Ready}
+use Rattle.calls.specs.Prepared.{PreparedStore}
 use Rattle.stream.specs.declared.Next.{Next}
 use Rattle.stream.specs.declared.Next.the-variants.{Question, Cut, End, More}
 use Rattle.report.specs.declared.State.{State}
+use Rattle.checks.specs.declared.Answer as Declared
 
 -- ---- A question
 
--- The sheet was checked, and if it was accepted, then with this index, and the store was accepted with its index.
+-- The sheet was checked, with this index if it was accepted, and then the store was accepted, with its index.
 pub record Prepared (check : SheetCheck) (sheet index store : List ℕ) (kept : ℕ) (links : List ℕ) : Type 0 where
-  pub checked : check ≡ checkOf (checkSheet sheet)
-  pub ready : (attributes nodes : ℕ) → check ≡ Accepted attributes nodes → Ready sheet index attributes nodes store kept links
+  pub checked : Checks sheet check index
+  pub store-ready : (attributes nodes : ℕ) → check ≡ Accepted attributes nodes → PreparedStore sheet store kept links
 
 -- What a question brings, with the budget of 1,000,000, and what it leaves for the next one.
 pub record Put (check : SheetCheck) (sheet index question store : List ℕ) (kept : ℕ) (left links : List ℕ) (r : Declared.Answer) : Type 0 where
-  pub answer : answerOf r ≡ asked sheet store kept question 1000000 .answer
-  pub store-is : left ≡ asked sheet store kept question 1000000 .store
+  pub answer : answerOf r ≡ ask sheet store kept question 1000000 .answer
+  pub store-is : left ≡ ask sheet store kept question 1000000 .store
   pub prepared : Prepared check sheet index left (answerOf r .kept) links
 
 abbrev pub lent : List ℕ → ℕ → Lent
@@ -35,7 +35,7 @@ lent store kept = record { store = store; kept = kept }
 
 -- what a question leaves of what it is lent
 unfoldable pub after : List ℕ → Lent → List ℕ → Lent
-after sheet m question = leaves (asked sheet (m .store) (m .kept) question 1000000)
+after sheet m question = leaves (call sheet m record { question = question; budget = 1000000 })
 
 -- ---- A turn
 

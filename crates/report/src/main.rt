@@ -131,24 +131,23 @@ fn print(answer: Answer) -> bool {
 }
 
 // A question is put to the sheet, with the budget of 1,000,000. A refused sheet has its refusal for each.
-fn ask(
+fn ask<'a>(
     check: SheetCheck,
-    sheet: &[u8],
+    sheet: &'a [u8],
     index: &[u32],
-    question: &[u8],
+    question: &'a [u8],
     store: &mut [u8],
     kept: usize,
     links: &mut [u32],
-    frames: &mut [u64],
-    forms: &mut [u32],
+    frames: &mut [u64; 16640],
+    forms: &mut [u32; 256],
 ) -> Answer
     requires { ⌜ Prepared check (now sheet) (now index) (now store) kept (now links) ⌝ }
-    requires { ⌜ (length (now frames) ≡ 16640) × (length (now forms) ≡ 256) ⌝ }
     ensures { λ r. ⌜ Put check (now (sheet .entry)) (now (index .entry)) (now (question .entry)) (now (store .entry)) kept (now (store .exit)) (now (links .exit)) r ⌝ }
 {
     match check {
         SheetCheck::Refused(number, place) => checks::refuse(number, place, kept),
-        SheetCheck::Accepted(attributes, nodes) => standin::ask_checked(
+        SheetCheck::Accepted(attributes, nodes) => calls::ask_checked(
             sheet,
             index,
             attributes,
@@ -165,19 +164,18 @@ fn ask(
 }
 
 // A question is put, and the line of its answer printed.
-fn answer(
+fn answer<'a>(
     check: SheetCheck,
-    sheet: &[u8],
+    sheet: &'a [u8],
     index: &[u32],
-    question: &[u8],
+    question: &'a [u8],
     store: &mut [u8],
     kept: usize,
     links: &mut [u32],
-    frames: &mut [u64],
-    forms: &mut [u32],
+    frames: &mut [u64; 16640],
+    forms: &mut [u32; 256],
 ) -> Answered
     requires { ⌜ Prepared check (now sheet) (now index) (now store) kept (now links) ⌝ }
-    requires { ⌜ (length (now frames) ≡ 16640) × (length (now forms) ≡ 256) ⌝ }
     ensures { λ r. ⌜ Prepared check (now (sheet .entry)) (now (index .entry)) (now (store .exit)) (r .kept) (now (links .exit)) ⌝ }
     ensures { λ r. ⌜ lent (now (store .exit)) (r .kept) ≡ after (now (sheet .entry)) (lent (now (store .entry)) kept) (now (question .entry)) ⌝ }
 {
@@ -206,13 +204,12 @@ fn turn(
     input: &mut [u8],
     store: &mut [u8],
     links: &mut [u32],
-    frames: &mut [u64],
-    forms: &mut [u32],
+    frames: &mut [u64; 16640],
+    forms: &mut [u32; 256],
     s: State,
 ) -> State
     requires { ⌜ Prepared check (now sheet) (now index) (now store) (s .kept) (now links) ⌝ }
     requires { ⌜ (s .from ≤ s .to) × (s .to ≤ length (now input)) × (65537 ≤ length (now input)) ⌝ }
-    requires { ⌜ (length (now frames) ≡ 16640) × (length (now forms) ≡ 256) ⌝ }
     ensures { λ r. ⌜ Prepared check (now (sheet .entry)) (now (index .entry)) (now (store .exit)) (r .kept) (now (links .exit)) ⌝ }
     ensures { λ r. ⌜ (r .from ≤ r .to) × (r .to ≤ length (now (input .exit))) ⌝ }
     ensures { λ r. ⌜ Turns (now (sheet .entry)) (viewOf (now (input .entry)) (now (store .entry)) s) (viewOf (now (input .exit)) (now (store .exit)) r)
@@ -294,12 +291,11 @@ fn run(
     input: &mut [u8],
     store: &mut [u8],
     links: &mut [u32],
-    frames: &mut [u64],
-    forms: &mut [u32],
+    frames: &mut [u64; 16640],
+    forms: &mut [u32; 256],
 )
     requires { ⌜ Prepared check (now sheet) (now index) (now store) 0 (now links) ⌝ }
     requires { ⌜ 65537 ≤ length (now input) ⌝ }
-    requires { ⌜ (length (now frames) ≡ 16640) × (length (now forms) ≡ 256) ⌝ }
 {
     let mut s = State {
         from: 0,
@@ -320,7 +316,7 @@ fn prepare(sheet: &[u8], index: &mut [u32; 33280], store: &[u8], links: &mut [u3
     requires { ⌜ (length (now store) ≡ 12288) × (length (now links) ≡ 2048) ⌝ }
     ensures { λ r. ⌜ Prepared r (now (sheet .entry)) (now (index .exit)) (now (store .entry)) 0 (now (links .exit)) ⌝ }
 {
-    match standin::check_sheet(sheet, index) {
+    match sheets::check(sheet, index) {
         SheetCheck::Refused(number, place) => SheetCheck::Refused(number, place),
         SheetCheck::Accepted(attributes, nodes) => {
             stores::check(sheet, attributes, nodes, store, 0, links);

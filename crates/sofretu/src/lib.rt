@@ -1,8 +1,19 @@
-// What others link: the calls of the engine as C functions, on numbers and byte slices.
+// What others link: the calls of the engine as C functions, on numbers and byte slices. A slice is a pointer and then a length.
+use checks::Answer;
 use checks::Verdict;
+use sheets::SheetCheck;
+use stores::StoreCheck;
+ghost use mathlib.Core.List.{_∷_, []};
 ghost use mathlib.Core.Path.{_≡_};
+ghost use Prim.Native.Nat.{ℕ, _*_, _≤_};
+ghost use lib.ListN.{length};
+ghost use Rattle.specs.specs.Ask.{ask};
+ghost use Rattle.specs.specs.Sheet.{checkSheet};
+ghost use Rattle.checks.specs.Answers.{answerOf};
 ghost use Rattle.checks.specs.Verdict.{verdict};
-ghost use Rattle.sofretu.specs.Check.{numberOf, placeOf};
+ghost use Rattle.calls.specs.Prepared.{PreparedSheet, PreparedStore};
+ghost use Rattle.sofretu.specs.Check.{numberOf, placeOf, sheetFound, StoreFound};
+ghost use Rattle.sofretu.specs.Six.{inSigned, six};
 
 // The check of a call's arguments: 0, or the number of the stop that refuses them, 1 to 13, with its place in `place`. It takes some
 // 145 KB of stack.
@@ -38,4 +49,203 @@ pub extern "C" fn sofretu_check(
             0
         }
     }
+}
+
+// A number of 64 bits as a signed one, in two's complement: of the fields of an answer only a lent kept number can be so large.
+fn signed(n: usize) -> i64
+    ensures { λ r. ⌜ r ≡ inSigned n ⌝ }
+{
+    if n < 9223372036854775808 {
+        n as i64
+    } else {
+        -1 - (18446744073709551615 - n) as i64
+    }
+}
+
+// An answer as six numbers: number, place, type, value, steps, kept.
+fn lay(a: Answer, out: &mut [i64; 6])
+    ensures { λ _. ⌜ now (out .exit) ≡ six (answerOf a) ⌝ }
+{
+    match a {
+        Answer::Value(v, steps, kept) => {
+            *out = [
+                0,
+                0,
+                values::type_code(v) as i64,
+                values::decimal(v),
+                signed(steps),
+                signed(kept),
+            ];
+        }
+        Answer::Refusal(number, place, steps, kept) => {
+            *out = [
+                number as i64,
+                signed(place),
+                0,
+                0,
+                signed(steps),
+                signed(kept),
+            ];
+        }
+    }
+}
+
+// A question call in lent scratch: nothing is asked of what the scratch holds, and nothing is said of what it holds afterwards.
+#[no_mangle]
+pub extern "C" fn sofretu_ask_in<'a>(
+    sheet: &'a [u8],
+    question: &'a [u8],
+    store: &mut [u8],
+    kept: u64,
+    budget: u64,
+    index: &mut [u32; 33280],
+    links: &mut [u32; 2048],
+    frames: &mut [u64; 16640],
+    forms: &mut [u32; 256],
+    answer: &mut [i64; 6],
+)
+    ensures { λ _. ⌜ now (answer .exit) ≡ six (ask (now (sheet .entry)) (now (store .entry)) kept (now (question .entry)) budget .answer) ⌝ }
+    ensures { λ _. ⌜ now (store .exit) ≡ ask (now (sheet .entry)) (now (store .entry)) kept (now (question .entry)) budget .store ⌝ }
+{
+    let a = calls::ask(
+        sheet,
+        question,
+        store,
+        kept as usize,
+        budget as usize,
+        index,
+        links,
+        frames,
+        forms,
+    );
+    lay(a, answer);
+}
+
+// A question call. It takes some 280 KB of stack.
+#[no_mangle]
+pub extern "C" fn sofretu_ask<'a>(
+    sheet: &'a [u8],
+    question: &'a [u8],
+    store: &mut [u8],
+    kept: u64,
+    budget: u64,
+    answer: &mut [i64; 6],
+)
+    ensures { λ _. ⌜ now (answer .exit) ≡ six (ask (now (sheet .entry)) (now (store .entry)) kept (now (question .entry)) budget .answer) ⌝ }
+    ensures { λ _. ⌜ now (store .exit) ≡ ask (now (sheet .entry)) (now (store .entry)) kept (now (question .entry)) budget .store ⌝ }
+{
+    let mut index = [0u32; 33280];
+    let mut links = [0u32; 2048];
+    let mut frames = [0u64; 16640];
+    let mut forms = [0u32; 256];
+    sofretu_ask_in(
+        sheet,
+        question,
+        store,
+        kept,
+        budget,
+        &mut index,
+        &mut links,
+        &mut frames,
+        &mut forms,
+        answer,
+    );
+}
+
+// The check of a sheet, which fills its index: 0, or the number of the stop that refuses it, 1 to 8. `found` has the place, and of an accepted
+// sheet the numbers of attributes and nodes.
+#[no_mangle]
+pub extern "C" fn sofretu_check_sheet(
+    sheet: &[u8],
+    index: &mut [u32; 33280],
+    found: &mut [u64; 3],
+) -> u32
+    ensures { λ r. ⌜ (r ∷ now (found .exit)) ≡ sheetFound (checkSheet (now (sheet .entry))) ⌝ }
+    ensures { λ r. ⌜ ((attributes nodes : ℕ) → (r ∷ now (found .exit)) ≡ 0 ∷ 0 ∷ attributes ∷ nodes ∷ []
+        → PreparedSheet (now (sheet .entry)) (now (index .exit)) attributes nodes) ⌝ }
+{
+    match sheets::check(sheet, index) {
+        SheetCheck::Refused(number, place) => {
+            *found = [place as u64, 0, 0];
+            number
+        }
+        SheetCheck::Accepted(attributes, nodes) => {
+            *found = [0, attributes as u64, nodes as u64];
+            0
+        }
+    }
+}
+
+// The check of a store for a sheet that was accepted with these numbers of attributes and nodes, which fills the store's index: 0, 9 or 10, with
+// the place in `place`.
+#[no_mangle]
+pub extern "C" fn sofretu_check_store(
+    sheet: &[u8],
+    attributes: u64,
+    nodes: u64,
+    store: &[u8],
+    kept: u64,
+    links: &mut [u32; 2048],
+    place: &mut u64,
+) -> u32
+    requires { ⌜ 3 * attributes ≤ length (now sheet) ⌝ }
+    ensures { λ r. ⌜ StoreFound (now (sheet .entry)) attributes nodes (now (store .entry)) kept (now (links .exit)) r (now (place .exit)) ⌝ }
+{
+    match stores::check(
+        sheet,
+        attributes as usize,
+        nodes as usize,
+        store,
+        kept as usize,
+        links,
+    ) {
+        StoreCheck::Refused(number, at) => {
+            *place = at as u64;
+            number
+        }
+        StoreCheck::Accepted => {
+            *place = 0;
+            0
+        }
+    }
+}
+
+// A question to a sheet and a store that were checked: index, attributes and nodes as sofretu_check_sheet left them, links as
+// sofretu_check_store or an earlier call of this left them. What it answers and leaves is what sofretu_ask does.
+#[no_mangle]
+pub extern "C" fn sofretu_ask_checked<'a>(
+    sheet: &'a [u8],
+    attributes: u64,
+    nodes: u64,
+    index: &[u32; 33280],
+    question: &'a [u8],
+    store: &mut [u8],
+    kept: u64,
+    budget: u64,
+    links: &mut [u32; 2048],
+    frames: &mut [u64; 16640],
+    forms: &mut [u32; 256],
+    answer: &mut [i64; 6],
+)
+    requires { ⌜ PreparedSheet (now sheet) (now index) attributes nodes ⌝ }
+    requires { ⌜ PreparedStore (now sheet) (now store) kept (now links) ⌝ }
+    ensures { λ _. ⌜ now (answer .exit) ≡ six (ask (now (sheet .entry)) (now (store .entry)) kept (now (question .entry)) budget .answer) ⌝ }
+    ensures { λ _. ⌜ now (store .exit) ≡ ask (now (sheet .entry)) (now (store .entry)) kept (now (question .entry)) budget .store ⌝ }
+    ensures { λ _. ⌜ PreparedStore (now (sheet .entry)) (now (store .exit))
+        (ask (now (sheet .entry)) (now (store .entry)) kept (now (question .entry)) budget .answer .kept) (now (links .exit)) ⌝ }
+{
+    let a = calls::ask_checked(
+        sheet,
+        index,
+        attributes as usize,
+        nodes as usize,
+        question,
+        store,
+        kept as usize,
+        budget as usize,
+        links,
+        frames,
+        forms,
+    );
+    lay(a, answer);
 }

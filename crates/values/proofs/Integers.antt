@@ -42,7 +42,7 @@ pub difference-fits : (y z : ℤ) → mag y < 2 ^ 31 → mag z < 2 ^ 31 → SFit
 difference-fits y z p q = record { sfits = omega (arith, mag-sum y (negℤ z), mag-negated z) }
 
 -- -1 - z turns -(n + 1) into n and n into -(n + 1).
-turned : (n : ℕ) → negsuc 0 -ℤ pos n ≡ negsuc n
+pub turned : (n : ℕ) → negsuc 0 -ℤ pos n ≡ negsuc n
 turned zero = refl
 turned (suc n) = ap (λ k. negsuc (suc k)) (zero-add n)
 

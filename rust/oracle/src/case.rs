@@ -38,11 +38,11 @@ impl Case {
         let mut store = self.store.clone();
         let mut kept = self.kept;
         let mut answers = Vec::new();
-        for ask in &self.asks {
-            let answer = engine.ask(&self.sheet, &mut store, kept, &ask.question, ask.budget);
+        engine.list(&self, &mut |answer, left| {
+            store.copy_from_slice(left);
             kept = answer.kept as u64;
             answers.push(answer);
-        }
+        });
         Listed {
             case: self,
             answers,

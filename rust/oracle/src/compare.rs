@@ -1,11 +1,12 @@
 //! An engine compared with the oracle: every field of every answer, every byte of the store after it.
 
-use std::collections::BTreeMap;
+use std::collections::{BTreeMap, BTreeSet};
 use std::fmt;
 
 use crate::ask::Answer;
 use crate::case::Case;
 use crate::engine::{Engine, Oracle};
+use crate::store::{ENTRY, MOST_ENTRIES};
 
 /// What was tried.
 #[derive(Clone, Debug, Default, PartialEq, Eq)]
@@ -14,6 +15,8 @@ pub struct Counts {
     pub answers: BTreeMap<i64, u64>,
     /// Checks, by what was checked.
     pub checks: BTreeMap<&'static str, u64>,
+    /// The capacities of first stores that passed their checks.
+    pub capacities: BTreeSet<usize>,
 }
 
 impl Counts {
@@ -32,6 +35,7 @@ impl Counts {
         for (part, count) in &other.checks {
             *self.checks.entry(part).or_default() += count;
         }
+        self.capacities.extend(&other.capacities);
     }
 
     /// The numbers from 0 to 16 that no answer had.
@@ -49,6 +53,10 @@ impl fmt::Display for Counts {
         }
         for (part, count) in &self.checks {
             writeln!(f, "{part}: {count}")?;
+        }
+        if !self.capacities.is_empty() {
+            let capacities = self.capacities.len();
+            writeln!(f, "capacities: {capacities} of {}", MOST_ENTRIES + 1)?;
         }
         Ok(())
     }
@@ -86,10 +94,15 @@ impl fmt::Display for Mismatch {
 pub fn compare<E: Engine + ?Sized>(engine: &mut E, case: &Case) -> Result<Counts, Box<Mismatch>> {
     let mut oracle = Oracle::default();
     let mut counts = Counts::default();
-    let mut store = case.store.clone();
     let mut expected_store = case.store.clone();
     let mut kept = case.kept;
-    for (question, ask) in case.asks.iter().enumerate() {
+    let mut asks = case.asks.iter().enumerate();
+    let mut mismatch = None;
+    engine.list(case, &mut |answer, store| {
+        if mismatch.is_some() {
+            return;
+        }
+        let (question, ask) = asks.next().expect("an answer to each question");
         let expected = oracle.ask(
             &case.sheet,
             &mut expected_store,
@@ -97,20 +110,29 @@ pub fn compare<E: Engine + ?Sized>(engine: &mut E, case: &Case) -> Result<Counts
             &ask.question,
             ask.budget,
         );
-        let answer = engine.ask(&case.sheet, &mut store, kept, &ask.question, ask.budget);
         let byte = (0..store.len())
             .find(|at| store[*at] != expected_store[*at])
             .map(|at| (at, expected_store[at], store[at]));
         if answer != expected || byte.is_some() {
-            return Err(Box::new(Mismatch {
+            mismatch = Some(Box::new(Mismatch {
                 question,
                 expected,
                 answer,
                 byte,
             }));
+            return;
         }
         counts.answer(&answer);
+        if !(1..=10).contains(&answer.number) {
+            counts.capacities.insert(store.len() / ENTRY);
+        }
         kept = answer.kept as u64;
+    });
+    match mismatch {
+        Some(mismatch) => Err(mismatch),
+        None => {
+            assert_eq!(asks.len(), 0, "an answer to each question");
+            Ok(counts)
+        }
     }
-    Ok(counts)
 }

@@ -13,6 +13,7 @@
 //! Beside them, with a store of capacity 0 every step is a plain one: an ending is then plain Saiga's, count and all.
 
 use std::fmt;
+use std::mem;
 
 use crate::ask::{read_question, Answer, MOST_STEPS};
 use crate::case::{Ask, Case};
@@ -84,27 +85,33 @@ pub fn demand3<E: Engine + ?Sized>(engine: &mut E, case: &Case) -> Result<Counts
     let claimed = sheet.filter(|_| case.kept == 0 && well_shaped(&case.store));
     let mut counts = Counts::default();
     let mut answers = Vec::new();
-    let mut lent = Lent {
+    let mut lefts = Vec::new();
+    engine.list(case, &mut |answer, store| {
+        counts.answer(&answer);
+        answers.push(answer);
+        lefts.push(Lent {
+            bytes: store.to_vec(),
+            kept: answer.kept as u64,
+        });
+    });
+    let mut before = Lent {
         bytes: case.store.clone(),
         kept: case.kept,
     };
-    for (question, ask) in case.asks.iter().enumerate() {
+    for (question, (ask, left)) in case.asks.iter().zip(lefts).enumerate() {
         let ending = claimed.as_ref().and_then(|sheet| {
             let question = read_question(&ask.question, sheet).ok()?;
             Some(plain::run(sheet, &question, PLAIN_LIMIT))
         });
-        let before = lent.clone();
-        let answer = lent.ask(engine, &case.sheet, &ask.question, ask.budget);
-        counts.answer(&answer);
         let own = Tried {
             budget: ask.budget,
-            answer,
-            left: lent.clone(),
+            answer: answers[question],
+            left: left.clone(),
         };
         let place = Place {
             sheet: &case.sheet,
             ask,
-            before,
+            before: mem::replace(&mut before, left),
             ending,
         };
         place
@@ -114,7 +121,6 @@ pub fn demand3<E: Engine + ?Sized>(engine: &mut E, case: &Case) -> Result<Counts
                 question,
                 detail,
             })?;
-        answers.push(answer);
     }
     if claimed.is_some() {
         try_larger_stores(engine, case, &answers, &mut counts)?;
@@ -314,22 +320,24 @@ fn try_larger_stores<E: Engine + ?Sized>(
     larger.retain(|larger| *larger > capacity && *larger <= MOST_ENTRIES);
     larger.dedup();
     for larger in larger {
-        let mut lent = Lent {
-            bytes: (0..larger * ENTRY)
+        let with_larger = Case {
+            store: (0..larger * ENTRY)
                 .map(|at| (at * 151 + larger) as u8)
                 .collect(),
-            kept: 0,
+            ..case.clone()
         };
-        for (question, (ask, before)) in case.asks.iter().zip(answers).enumerate() {
-            let after = lent.ask(engine, &case.sheet, &ask.question, ask.budget);
-            if !ended(before) {
-                continue;
+        let mut before = answers.iter().enumerate();
+        let mut violation = None;
+        engine.list(&with_larger, &mut |after, _| {
+            let (question, before) = before.next().expect("an answer to each question");
+            if violation.is_some() || !ended(before) {
+                return;
             }
             counts.check(C);
             let same =
                 (before.number, before.typ, before.value) == (after.number, after.typ, after.value);
             if !same || after.steps > before.steps {
-                return Err(Violation {
+                violation = Some(Violation {
                     part: C,
                     question,
                     detail: format!(
@@ -337,6 +345,9 @@ fn try_larger_stores<E: Engine + ?Sized>(
                     ),
                 });
             }
+        });
+        if let Some(violation) = violation {
+            return Err(violation);
         }
     }
     Ok(())

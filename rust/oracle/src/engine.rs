@@ -1,6 +1,7 @@
 //! What can be asked: the oracle itself, or an engine under comparison.
 
 use crate::ask::{ask_accepted, refusal, Answer};
+use crate::case::Case;
 use crate::sheet::Sheet;
 use crate::stop::Stop;
 
@@ -15,6 +16,27 @@ pub trait Engine {
         question: &[u8],
         budget: u64,
     ) -> Answer;
+
+    /// Puts a list's questions one after the other, each lent what the one before left. `each` is shown every answer and the
+    /// bytes of the store after it.
+    fn list(&mut self, case: &Case, each: &mut dyn FnMut(Answer, &[u8])) {
+        ask_each(self, case, each);
+    }
+}
+
+/// A list put to an engine by one call after the other.
+pub fn ask_each<E: Engine + ?Sized>(
+    engine: &mut E,
+    case: &Case,
+    each: &mut dyn FnMut(Answer, &[u8]),
+) {
+    let mut store = case.store.clone();
+    let mut kept = case.kept;
+    for ask in &case.asks {
+        let answer = engine.ask(&case.sheet, &mut store, kept, &ask.question, ask.budget);
+        kept = answer.kept as u64;
+        each(answer, &store);
+    }
 }
 
 impl<F> Engine for F

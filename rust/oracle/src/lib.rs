@@ -6,9 +6,11 @@
 pub mod ask;
 pub mod caching;
 pub mod case;
+pub mod commands;
 pub mod compare;
 pub mod demand3;
 pub mod engine;
+pub mod examples;
 pub mod expr;
 pub mod generate;
 pub mod plain;

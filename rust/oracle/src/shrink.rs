@@ -1,16 +1,32 @@
 //! Smaller cases with the same failing.
 
+mod pieces;
+
+use crate::ask::MOST_STEPS;
 use crate::case::Case;
 use crate::store::ENTRY;
+use pieces::{commands, parts, LEAVES};
 
-/// Drops questions, shortens the store and lowers budgets for as long as `fails` still holds.
+/// How often a smaller case is tried, for the sake of time.
+const MOST_ATTEMPTS: usize = 20_000;
+
+/// Drops questions, commands and entries, shortens expressions and the store, and lowers budgets for as long as `fails` still holds.
 pub fn shrink(case: Case, fails: impl FnMut(&Case) -> bool) -> Case {
-    let mut shrinking = Shrinking { best: case, fails };
+    let mut shrinking = Shrinking {
+        best: case,
+        fails,
+        attempts: 0,
+    };
     loop {
         let before = shrinking.best.clone();
         shrinking.drop_questions();
+        shrinking.drop_declared(0x4E);
+        shrinking.drop_declared(0x41);
+        shrinking.drop_commands();
         shrinking.shorten_store();
         shrinking.drop_entries();
+        shrinking.shorten_questions();
+        shrinking.shorten_rules();
         shrinking.lower_budgets();
         if shrinking.best == before {
             return before;
@@ -21,11 +37,16 @@ pub fn shrink(case: Case, fails: impl FnMut(&Case) -> bool) -> Case {
 struct Shrinking<F> {
     best: Case,
     fails: F,
+    attempts: usize,
 }
 
 impl<F: FnMut(&Case) -> bool> Shrinking<F> {
     /// Keeps a change if the case still fails with it.
     fn attempt(&mut self, change: impl FnOnce(&mut Case)) -> bool {
+        if self.attempts == MOST_ATTEMPTS {
+            return false;
+        }
+        self.attempts += 1;
         let mut changed = self.best.clone();
         change(&mut changed);
         let better = changed != self.best && (self.fails)(&changed);
@@ -35,6 +56,7 @@ impl<F: FnMut(&Case) -> bool> Shrinking<F> {
         better
     }
 
+    /// A question that is dropped no longer spares the others steps, so they are tried with all the budget too.
     fn drop_questions(&mut self) {
         for length in 1..self.best.asks.len() {
             if self.attempt(|case| case.asks.truncate(length)) {
@@ -42,7 +64,107 @@ impl<F: FnMut(&Case) -> bool> Shrinking<F> {
             }
         }
         for place in (0..self.best.asks.len()).rev() {
-            self.attempt(|case| drop(case.asks.remove(place)));
+            let dropped = self.attempt(|case| drop(case.asks.remove(place)));
+            if !dropped {
+                self.attempt(|case| {
+                    case.asks.remove(place);
+                    for ask in &mut case.asks {
+                        ask.budget = ask.budget.max(MOST_STEPS);
+                    }
+                });
+            }
+        }
+    }
+
+    /// Drops the last nodes or attributes, as `command` says, with the figures and rules for them.
+    fn drop_declared(&mut self, command: u8) {
+        let written = commands(&self.best.sheet);
+        let most = written.iter().filter(|each| each[0] == command).count();
+        lower(most as u64, |count| {
+            let mut declared = 0;
+            let keeps = |each: &&Vec<u8>| match (each[0], command) {
+                (0x56, 0x4E) if each.len() == 8 => {
+                    u64::from(u16::from_le_bytes([each[1], each[2]])) < count
+                }
+                (0x56, 0x41) if each.len() == 8 => u64::from(each[3]) < count,
+                (0x52, 0x41) if each.len() >= 5 => u64::from(each[2]) < count,
+                (head, _) if head == command => {
+                    declared += 1;
+                    declared <= count
+                }
+                _ => true,
+            };
+            let left: Vec<Vec<u8>> = written.iter().filter(keeps).cloned().collect();
+            self.attempt(|case| case.sheet = left.concat())
+        });
+    }
+
+    /// Drops runs of commands, shorter and shorter ones.
+    fn drop_commands(&mut self) {
+        let mut length = commands(&self.best.sheet).len() / 2;
+        while length > 0 {
+            let mut end = commands(&self.best.sheet).len();
+            while end > 0 {
+                let start = end.saturating_sub(length);
+                self.attempt(|case| {
+                    let mut written = commands(&case.sheet);
+                    written.drain(start..end);
+                    case.sheet = written.concat();
+                });
+                end = start;
+            }
+            length /= 2;
+        }
+    }
+
+    fn shorten_questions(&mut self) {
+        for place in 0..self.best.asks.len() {
+            let question = self.best.asks[place].question.clone();
+            self.shorten(question, |case, shorter| {
+                case.asks[place].question = shorter;
+            });
+        }
+    }
+
+    fn shorten_rules(&mut self) {
+        const BEFORE_EXPRESSION: usize = 5;
+        for place in 0..commands(&self.best.sheet).len() {
+            let written = commands(&self.best.sheet);
+            if written[place][0] != 0x52 || written[place].len() < BEFORE_EXPRESSION {
+                continue;
+            }
+            let expression = written[place][BEFORE_EXPRESSION..].to_vec();
+            self.shorten(expression, |case, shorter| {
+                let mut written = commands(&case.sheet);
+                let length = (shorter.len() as u16).to_le_bytes();
+                written[place].truncate(BEFORE_EXPRESSION - 2);
+                written[place].extend(length);
+                written[place].extend(shorter);
+                case.sheet = written.concat();
+            });
+        }
+    }
+
+    /// Puts, for a part of an expression, one of its own parts or a leaf, and what comes of it into the case by `put`.
+    fn shorten(&mut self, mut expression: Vec<u8>, put: impl Fn(&mut Case, Vec<u8>)) {
+        let mut at = 0;
+        while at < parts(&expression).len() {
+            let (range, inner) = parts(&expression).swap_remove(at);
+            let inner = inner.iter().map(|inner| expression[inner.clone()].to_vec());
+            let leaves = LEAVES.iter().map(|leaf| leaf.to_vec());
+            let smaller = leaves.chain(inner).find_map(|part| {
+                if part.len() >= range.len() {
+                    return None;
+                }
+                let mut shorter = expression.clone();
+                shorter.splice(range.clone(), part);
+                self.attempt(|case| put(case, shorter.clone()))
+                    .then_some(shorter)
+            });
+            match smaller {
+                Some(smaller) => expression = smaller,
+                None => at += 1,
+            }
         }
     }
 

@@ -1,9 +1,9 @@
-//! Generated cases put to an engine.
+//! Generated cases put to a check.
 
 use crate::case::{Case, Listed};
 use crate::compare::Counts;
-use crate::engine::{Engine, Oracle};
-use crate::generate::{self, Rng};
+use crate::engine::Oracle;
+use crate::generate;
 use crate::shrink::shrink;
 
 /// A case that failed, shrunk, with the oracle's answers to it.
@@ -13,25 +13,20 @@ pub struct Failure {
     pub detail: String,
 }
 
-/// Puts this many cases to an engine, or as many as it takes until one fails. The cases are the seed's, whatever the machine's speed.
-pub fn soak<E, T>(
-    engine: &mut E,
+/// Puts this many cases to a check, or as many as it takes until one fails. The cases are the seed's, whatever the machine's speed.
+pub fn soak(
     cases: u64,
     seed: u64,
-    mut check: T,
-) -> Result<Counts, Box<Failure>>
-where
-    E: Engine + ?Sized,
-    T: FnMut(&mut E, &Case) -> Result<Counts, String>,
-{
+    mut check: impl FnMut(&Case) -> Result<Counts, String>,
+) -> Result<Counts, Box<Failure>> {
     let mut counts = Counts::default();
     for number in 0..cases {
-        let case = generate::case(&mut Rng::new(seed, number));
-        match check(engine, &case) {
+        let case = generate::case(seed, number);
+        match check(&case) {
             Ok(more) => counts.add(&more),
             Err(_) => {
-                let case = shrink(case, |case| check(engine, case).is_err());
-                let detail = check(engine, &case).expect_err("a shrunk case fails");
+                let case = shrink(case, |case| check(case).is_err());
+                let detail = check(&case).expect_err("a shrunk case fails");
                 let list = case.answered(&mut Oracle::default());
                 return Err(Box::new(Failure { list, detail }));
             }

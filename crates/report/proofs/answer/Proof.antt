@@ -19,24 +19,10 @@ same-length c = search needs
 same-length-2 : tie.Need-same-length-2
 same-length-2 c = search needs
 
-same-length-3 : tie.Need-same-length-3
-same-length-3 c = search needs
-
-same-length-4 : tie.Need-same-length-4
-same-length-4 c = search needs
-
 returns : tie.Need-returns
-returns c = let p = c .before .before .before .before .before .before .before .before .before .before .ask .ensures in rw (c .before .kept-of .ensures) (p .prepared, put-after p)
+returns c = let p = c .before .before .before .before .before .before .ask .ensures in rw (c .before .kept-of .ensures) (p .prepared, put-after p)
 
 pub answer-spec : {M : Type 1} → statement M
 answer-spec =
     tie.close
-    (tie.spec
-    ask-requires
-    kept-of-requires
-    print-requires
-    same-length
-    same-length-2
-    same-length-3
-    same-length-4
-    returns)
+    (tie.spec ask-requires kept-of-requires print-requires same-length same-length-2 returns)

@@ -1,5 +1,4 @@
--- The buffers have the lengths that `run` asks for.
-use Prim.Native.Nat.{ℕ}
+-- The buffer has room for the largest question.
 use lib.Dec.{lit≤}
 use lib.ListN.{length-replicate}
 use borrow.Author.Needs.{needs}
@@ -24,14 +23,8 @@ slice-aggregate-run-2 c = search needs
 slice-aggregate-run-3 : tie.Need-slice-aggregate-run-3
 slice-aggregate-run-3 c = search needs
 
-slice-aggregate-run-4 : tie.Need-slice-aggregate-run-4
-slice-aggregate-run-4 c = search needs
-
-slice-aggregate-run-5 : tie.Need-slice-aggregate-run-5
-slice-aggregate-run-5 c = search needs
-
 run-requires : tie.Need-run-requires
-run-requires c κs = (c .before .before .before .before .before .before .before .before .prepare .ensures, (rw length-replicate (lit≤ tt), (length-replicate {A = ℕ} 16640 0, length-replicate {A = ℕ} 256 0)))
+run-requires c κs = (c .before .before .before .before .before .before .before .before .prepare .ensures, rw length-replicate (lit≤ tt))
 
 returns : tie.Need-returns
 returns c = search needs
@@ -46,7 +39,5 @@ answer-all-spec =
     slice-aggregate-run
     slice-aggregate-run-2
     slice-aggregate-run-3
-    slice-aggregate-run-4
-    slice-aggregate-run-5
     run-requires
     returns)

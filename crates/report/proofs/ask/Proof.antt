@@ -1,6 +1,7 @@
 -- A refused sheet and an accepted one (Puts.antt).
 use borrow.Author.Needs.{needs}
 use Rattle.report.proofs.Puts.{put-refused, put-accepted}
+use Rattle.calls.proofs.Preparing.{sheet-prepared}
 use Rattle.report.proofs.ask.Statement.{statement}
 use Rattle.report.proofs.ask.Tie as tie
 
@@ -14,10 +15,10 @@ enum-known-check-2 : tie.Need-enum-known-check-2
 enum-known-check-2 c = search needs
 
 ask-checked-requires : tie.Need-ask-checked-requires
-ask-checked-requires c κs = (c .before .before .before .before .before .before .before .before .before .before .before .before .before .before .pre .0 .ready _ _ (c .before .before .before .before .before .check2 .given .1), c .before .before .before .before .before .before .before .before .before .before .before .before .before .before .pre .1)
+ask-checked-requires c κs = let p = c .before .before .before .before .before .before .before .before .before .before .before .before .pre in (sheet-prepared (p .checked) (c .before .before .before .before .before .check2 .given .1), p .store-ready _ _ (c .before .before .before .before .before .check2 .given .1))
 
 returns : tie.Need-returns
-returns c = put-refused (c .before .before .before .before .before .before .before .before .before .before .before .pre .0) _ (c .before .before .check .given .1) (c .refuse .ensures)
+returns c = put-refused (c .before .before .before .before .before .before .before .before .before .pre) _ (c .before .before .check .given .1) (c .refuse .ensures)
 
 same-length : tie.Need-same-length
 same-length c = search needs
@@ -25,14 +26,8 @@ same-length c = search needs
 same-length-2 : tie.Need-same-length-2
 same-length-2 c = search needs
 
-same-length-3 : tie.Need-same-length-3
-same-length-3 c = search needs
-
-same-length-4 : tie.Need-same-length-4
-same-length-4 c = search needs
-
 returns-2 : tie.Need-returns-2
-returns-2 c = put-accepted (c .before .before .before .before .before .before .before .before .before .before .before .before .before .before .before .before .before .before .before .before .before .before .before .pre .0) (c .before .before .before .before .before .before .before .before .before .before .before .before .before .before .check2 .given .1) (c .before .before .before .before .before .before .before .before .ask-checked .ensures)
+returns-2 c = let e = c .before .before .before .before .ask-checked .ensures in put-accepted (c .before .before .before .before .before .before .before .before .before .before .before .before .before .before .before .before .before .pre) (e .0) (e .1 .0) (e .1 .1)
 
 pub ask-spec : {M : Type 1} → statement M
 ask-spec =
@@ -45,6 +40,4 @@ ask-spec =
     returns
     same-length
     same-length-2
-    same-length-3
-    same-length-4
     returns-2)

@@ -6,36 +6,32 @@ use Rattle.report.proofs.run.Statement.{statement}
 use Rattle.report.proofs.run.Tie as tie
 
 abbrev Inv-loop : tie.InvT-loop
-Inv-loop check sheet index input₀ store₀ links₀ frames₀ forms₀ s₀ turns₀ input store links frames forms s turns = Running check sheet index input₀ store₀ links₀ frames₀ forms₀ input store links frames forms s
+Inv-loop check sheet index input₀ store₀ links₀ frames₀ forms₀ s₀ turns₀ input store links frames forms s turns = Running check sheet index input₀ store₀ links₀ input store links s
 
 abbrev μ-loop : tie.MeasureT-loop
 μ-loop check sheet index input₀ store₀ links₀ frames₀ forms₀ s₀ turns₀ input store links frames forms s turns = turns
 
 loop-holds : tie.Need-loop-holds Inv-loop μ-loop
-loop-holds c = record { prepared = c .before .before .before .before .before .before .before .pre .0; within = omega arith; input-same = refl; store-same = refl; links-same = refl; frames-same = refl; forms-same = refl }
+loop-holds c = record { prepared = c .before .before .before .before .before .pre .0; within = omega arith; input-same = refl; store-same = refl; links-same = refl }
 
 turn-requires : tie.Need-turn-requires Inv-loop μ-loop
-turn-requires c κs = let r = c .before .before .before .before .before .before .before .loop .inv in
-    let p = c .before .before .before .before .before .before .before .before .before .before .before .before .before .before .before .pre in
-    (r .prepared, ((r .within .0, r .within .1, omega (arith, r .input-same, p .1 .0)), (r .frames-same ∙ p .1 .1 .0, r .forms-same ∙ p .1 .1 .1)))
+turn-requires c κs = let r = c .before .before .before .before .before .before .before .loop .inv in (r .prepared, (r .within .0, r .within .1, omega (arith, r .input-same, c .before .before .before .before .before .before .before .before .before .before .before .before .before .pre .1)))
 
 sub-turns : tie.Need-sub-turns Inv-loop μ-loop
-sub-turns c = omega (arith, c .before .before .before .before .before .before .before .before .before .before .before .before .before .before .before .before .before .loop-test .taken)
+sub-turns c = omega (arith, c .before .before .before .before .before .before .before .before .before .before .before .before .before .loop-test .taken)
 
 loop-less : tie.Need-loop-less Inv-loop μ-loop
-loop-less c = omega (arith, c .before .before .before .before .before .before .before .before .before .before .before .before .before .before .before .before .before .loop-test .taken)
+loop-less c = omega (arith, c .before .before .before .before .before .before .before .before .before .before .before .before .before .loop-test .taken)
 
 loop-again : tie.Need-loop-again Inv-loop μ-loop
-loop-again c = let r = c .before .before .before .before .before .before .before .before .before .before .before .before .before .before .before .before .before .before .loop .inv in
-    let t = c .before .before .before .before .before .before .before .before .before .before .turn in
+loop-again c = let r = c .before .before .before .before .before .before .before .before .before .before .before .before .before .before .loop .inv in
+    let t = c .before .before .before .before .before .before .turn in
     record {
       prepared = t .ensures .0;
       within = t .ensures .1 .0;
       input-same = t .kept .1 .1 .1 .0 ∙ r .input-same;
       store-same = t .kept .1 .1 .1 .1 .0 ∙ r .store-same;
       links-same = t .kept .1 .1 .1 .1 .1 .0 ∙ r .links-same;
-      frames-same = t .kept .1 .1 .1 .1 .1 .1 .0 ∙ r .frames-same;
-      forms-same = t .kept .1 .1 .1 .1 .1 .1 .1 .0 ∙ r .forms-same;
     }
 
 same-length : tie.Need-same-length Inv-loop μ-loop
@@ -47,29 +43,17 @@ same-length-2 c = c .before .before .loop .inv .store-same
 same-length-3 : tie.Need-same-length-3 Inv-loop μ-loop
 same-length-3 c = c .before .before .loop .inv .links-same
 
-same-length-4 : tie.Need-same-length-4 Inv-loop μ-loop
-same-length-4 c = c .before .before .loop .inv .frames-same
-
-same-length-5 : tie.Need-same-length-5 Inv-loop μ-loop
-same-length-5 c = c .before .before .loop .inv .forms-same
-
 returns : tie.Need-returns Inv-loop μ-loop
 returns c = tt
 
+same-length-4 : tie.Need-same-length-4 Inv-loop μ-loop
+same-length-4 c = c .before .loop .inv .input-same
+
+same-length-5 : tie.Need-same-length-5 Inv-loop μ-loop
+same-length-5 c = c .before .loop .inv .store-same
+
 same-length-6 : tie.Need-same-length-6 Inv-loop μ-loop
-same-length-6 c = c .before .loop .inv .input-same
-
-same-length-7 : tie.Need-same-length-7 Inv-loop μ-loop
-same-length-7 c = c .before .loop .inv .store-same
-
-same-length-8 : tie.Need-same-length-8 Inv-loop μ-loop
-same-length-8 c = c .before .loop .inv .links-same
-
-same-length-9 : tie.Need-same-length-9 Inv-loop μ-loop
-same-length-9 c = c .before .loop .inv .frames-same
-
-same-length-10 : tie.Need-same-length-10 Inv-loop μ-loop
-same-length-10 c = c .before .loop .inv .forms-same
+same-length-6 c = c .before .loop .inv .links-same
 
 returns-2 : tie.Need-returns-2 Inv-loop μ-loop
 returns-2 c = tt
@@ -88,12 +72,8 @@ run-spec =
     same-length
     same-length-2
     same-length-3
+    returns
     same-length-4
     same-length-5
-    returns
     same-length-6
-    same-length-7
-    same-length-8
-    same-length-9
-    same-length-10
     returns-2)

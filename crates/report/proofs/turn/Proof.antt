@@ -10,7 +10,7 @@ use Rattle.report.proofs.turn.Statement.{statement}
 use Rattle.report.proofs.turn.Tie as tie
 
 within : (c : tie.Start) → (c .args .s .from ≤ c .args .s .to) × (c .args .s .to ≤ length (c .args .input .now))
-within c = let b = c .pre .1 .0 in (b .0, b .1)
+within c = let b = c .pre .1 in (b .0, b .1)
 
 sub-next-item : tie.Need-sub-next-item
 sub-next-item c = search needs
@@ -31,7 +31,7 @@ add-at : tie.Need-add-at
 add-at c = search needs
 
 add-end : tie.Need-add-end
-add-end c = omega (arith, question-within _ _ _ (within (c .before .before .before .before .before .before .before .before .before .before .before .before .before)) _ (c .before .n .given .0 .0) (sym (c .before .n .given .1) ∙ c .before .before .before .next-item .ensures .0))
+add-end c = omega (arith, question-within _ _ _ (within (c .before .before .before .before .before .before .before .before .before .before .before)) _ (c .before .n .given .0 .0) (sym (c .before .n .given .1) ∙ c .before .before .before .next-item .ensures .0))
 
 sub-answer : tie.Need-sub-answer
 sub-answer c = search needs
@@ -40,7 +40,7 @@ part-answer-start : tie.Need-part-answer-start
 part-answer-start c = search needs
 
 part-answer-end : tie.Need-part-answer-end
-part-answer-end c = omega (arith, question-within _ _ _ (within (c .before .before .before .before .before .before .before .before .before .before .before .before .before .before)) _ (c .before .before .n .given .0 .0) (sym (c .before .before .n .given .1) ∙ c .before .before .before .before .next-item .ensures .0))
+part-answer-end c = omega (arith, question-within _ _ _ (within (c .before .before .before .before .before .before .before .before .before .before .before .before)) _ (c .before .before .n .given .0 .0) (sym (c .before .before .n .given .1) ∙ c .before .before .before .before .next-item .ensures .0))
 
 answer-requires : tie.Need-answer-requires
 answer-requires c κs = search needs
@@ -64,11 +64,11 @@ enum-told-3 : tie.Need-enum-told-3
 enum-told-3 c = search needs
 
 read-on-requires : tie.Need-read-on-requires
-read-on-requires c κs = let w = within (c .before .before .before .before .before .before .before .before .before .before .before .before .before) in
-    (w .0, w .1, more-room _ _ _ w (c .before .before .before .next-item .ensures .1 (c .before .enum-told3 .given .1)) (c .before .before .before .before .before .before .before .before .before .before .before .before .before .pre .1 .0 .2))
+read-on-requires c κs = let w = within (c .before .before .before .before .before .before .before .before .before .before .before) in
+    (w .0, w .1, more-room _ _ _ w (c .before .before .before .next-item .ensures .1 (c .before .enum-told3 .given .1)) (c .before .before .before .before .before .before .before .before .before .before .before .pre .1 .2))
 
-sub-t50 : tie.Need-sub-t50
-sub-t50 c = search needs
+sub-t46 : tie.Need-sub-t46
+sub-t46 c = search needs
 
 same-length : tie.Need-same-length
 same-length c = search needs
@@ -79,19 +79,13 @@ same-length-2 c = search needs
 same-length-3 : tie.Need-same-length-3
 same-length-3 c = search needs
 
-same-length-4 : tie.Need-same-length-4
-same-length-4 c = search needs
-
-same-length-5 : tie.Need-same-length-5
-same-length-5 c = search needs
-
 returns : tie.Need-returns
-returns c = let s = c .before .before .before .before .before .before .before .before .before .before .before .before .before .before .before .before .before .before .before .before .before .before .before .before .before .before .before .before in
+returns c = let s = c .before .before .before .before .before .before .before .before .before .before .before .before .before .before .before .before .before .before .before .before .before .before in
     let input = s .args .input .now in
     let m = s .args .s in
-    let n = c .before .before .before .before .before .before .before .before .before .before .before .before .before .before .before .before .n .given .0 .0 in
-    let e = sym (c .before .before .before .before .before .before .before .before .before .before .before .before .before .before .before .before .n .given .1) ∙ c .before .before .before .before .before .before .before .before .before .before .before .before .before .before .before .before .before .before .next-item .ensures .0 in
-    let a = c .before .before .before .before .before .before .before .before .answer .ensures in
+    let n = c .before .before .before .before .before .before .before .before .before .before .before .before .n .given .0 .0 in
+    let e = sym (c .before .before .before .before .before .before .before .before .before .before .before .before .n .given .1) ∙ c .before .before .before .before .before .before .before .before .before .before .before .before .before .before .next-item .ensures .0 in
+    let a = c .before .before .before .before .answer .ensures in
     let w = within s in (
       a .0,
       (
@@ -102,38 +96,32 @@ returns c = let s = c .before .before .before .before .before .before .before .b
       ),
     )
 
+same-length-4 : tie.Need-same-length-4
+same-length-4 c = search needs
+
+same-length-5 : tie.Need-same-length-5
+same-length-5 c = search needs
+
 same-length-6 : tie.Need-same-length-6
 same-length-6 c = search needs
+
+returns-2 : tie.Need-returns-2
+returns-2 c = let e = sym (c .before .before .before .before .before .before .before .before .before .before .enum-told .given .1) ∙ c .before .before .before .before .before .before .before .before .before .before .before .before .next-item .ensures .0 in
+    let a = c .before .before .before .before .answer2 .ensures in
+    (a .0, (within (c .before .before .before .before .before .before .before .before .before .before .before .before .before .before .before .before .before .before .before .before), by-next e (a-cut refl (a .1))))
 
 same-length-7 : tie.Need-same-length-7
 same-length-7 c = search needs
 
+returns-3 : tie.Need-returns-3
+returns-3 c = let e = sym (c .enum-told2 .given .1) ∙ c .before .before .next-item .ensures .0 in
+    (c .before .before .before .before .before .before .before .before .before .before .pre .0, (within (c .before .before .before .before .before .before .before .before .before .before), by-next e (the-end refl refl)))
+
 same-length-8 : tie.Need-same-length-8
 same-length-8 c = search needs
 
-same-length-9 : tie.Need-same-length-9
-same-length-9 c = search needs
-
-same-length-10 : tie.Need-same-length-10
-same-length-10 c = search needs
-
-returns-2 : tie.Need-returns-2
-returns-2 c = let e = sym (c .before .before .before .before .before .before .before .before .before .before .before .before .before .before .enum-told .given .1) ∙ c .before .before .before .before .before .before .before .before .before .before .before .before .before .before .before .before .next-item .ensures .0 in
-    let a = c .before .before .before .before .before .before .before .before .answer2 .ensures in
-    (a .0, (within (c .before .before .before .before .before .before .before .before .before .before .before .before .before .before .before .before .before .before .before .before .before .before .before .before .before .before), by-next e (a-cut refl (a .1))))
-
-same-length-11 : tie.Need-same-length-11
-same-length-11 c = search needs
-
-returns-3 : tie.Need-returns-3
-returns-3 c = let e = sym (c .enum-told2 .given .1) ∙ c .before .before .next-item .ensures .0 in
-    (c .before .before .before .before .before .before .before .before .before .before .before .before .pre .0, (within (c .before .before .before .before .before .before .before .before .before .before .before .before), by-next e (the-end refl refl)))
-
-same-length-12 : tie.Need-same-length-12
-same-length-12 c = search needs
-
 returns-4 : tie.Need-returns-4
-returns-4 c = let s = c .before .before .before .before .before .before .before .before .before .before .before .before .before .before .before .before in
+returns-4 c = let s = c .before .before .before .before .before .before .before .before .before .before .before .before .before .before in
     let input = s .args .input .now in
     let m = s .args .s in
     let e = sym (c .before .before .before .before .enum-told3 .given .1) ∙ c .before .before .before .before .before .before .next-item .ensures .0 in
@@ -172,20 +160,16 @@ turn-spec =
     enum-told-2
     enum-told-3
     read-on-requires
-    sub-t50
+    sub-t46
     same-length
     same-length-2
     same-length-3
+    returns
     same-length-4
     same-length-5
-    returns
     same-length-6
-    same-length-7
-    same-length-8
-    same-length-9
-    same-length-10
     returns-2
-    same-length-11
+    same-length-7
     returns-3
-    same-length-12
+    same-length-8
     returns-4)

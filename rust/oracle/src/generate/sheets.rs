@@ -73,10 +73,11 @@ fn chain(rng: &mut Rng) -> Draft {
     let own = draft.attribute(Base::Int, Base::Unit);
     let dial = draft.attribute(Base::Int, Base::Unit);
     let total = draft.attribute(Base::Int, Base::Int);
-    let length = match rng.below(3) {
-        0 => rng.between(2, 8),
-        1 => rng.between(60, 68),
-        _ => rng.between(8, 150),
+    let length = match rng.below(12) {
+        0..=3 => rng.between(2, 8),
+        4..=7 => rng.between(60, 68),
+        8..=10 => rng.between(8, 150),
+        _ => MOST_NODES,
     };
     for place in 0..length {
         let node = draft.node(u8::from(place > 0));
@@ -269,14 +270,16 @@ fn large(rng: &mut Rng) -> Draft {
         let (result, parameter) = (rng.pick(&Base::ALL), rng.pick(&Base::ALL));
         draft.attribute(result, parameter);
     }
+    // Many short rules, or as many long ones as there is room for.
+    let (kinds, longest) = rng.pick(&[(16, 60), (5, LONGEST)]);
     for _ in 0..MOST_NODES - rng.below(2) {
-        let kind = rng.below(16) as u8;
+        let kind = rng.below(kinds) as u8;
         draft.node(kind);
     }
-    for kind in 0..16 {
+    for kind in 0..kinds as u8 {
         for attribute in 1..draft.attributes.len() {
             let declared = draft.attributes[attribute];
-            let room = rng.between(3, 60);
+            let room = rng.between(longest / 2, longest);
             let mut writer = Writer {
                 rng,
                 draft: &draft,

@@ -8,9 +8,9 @@ use crate::sheet::Sheet;
 use crate::store::{ENTRY, MOST_ENTRIES};
 use crate::values::NULL;
 
-/// A first store: its bytes and the number kept.
-pub fn lent(rng: &mut Rng, draft: &Draft, sheet: &Sheet) -> (Vec<u8>, u64) {
-    let capacity = capacity(rng);
+/// A first store for the case with a given number: its bytes and the number kept.
+pub fn lent(rng: &mut Rng, number: u64, draft: &Draft, sheet: &Sheet) -> (Vec<u8>, u64) {
+    let capacity = capacity(rng, number);
     let mut store = vec![rng.pick(&[0, 0xFF]); capacity * ENTRY];
     if rng.once_in(2) {
         store.fill_with(|| rng.byte());
@@ -42,14 +42,16 @@ pub fn lent(rng: &mut Rng, draft: &Draft, sheet: &Sheet) -> (Vec<u8>, u64) {
     (store, kept)
 }
 
-/// A number of entries from 0 to the most.
-fn capacity(rng: &mut Rng) -> usize {
+/// A number of entries. Every second case has the next one from 0 to the most; the others lie where more happens.
+fn capacity(rng: &mut Rng, number: u64) -> usize {
+    if number.is_multiple_of(2) {
+        return (number / 2 % (MOST_ENTRIES as u64 + 1)) as usize;
+    }
     match rng.below(8) {
         0 => 0,
-        1 => rng.between(1, 5),
-        2 => rng.between(6, 20),
-        3 => rng.between(60, 130),
-        4 => rng.between(0, MOST_ENTRIES),
+        1 | 2 => rng.between(1, 5),
+        3 => rng.between(6, 20),
+        4 => rng.between(60, 130),
         5 => MOST_ENTRIES - 1,
         _ => MOST_ENTRIES,
     }

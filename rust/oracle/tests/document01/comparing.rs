@@ -213,8 +213,10 @@ fn a_mismatch_says_where_and_shrinks() {
         case.store.len() > 60 && compare(&mut engine, case).is_err()
     });
     assert_eq!(shrunk.asks.len(), 1);
-    assert_eq!(shrunk.asks[0].budget, 6);
+    assert_eq!(shrunk.asks[0].budget, 2);
     assert_eq!(shrunk.store.len(), 72);
+    // Node 2's dial is its own at once.
+    assert_eq!(shrunk.sheet.len(), sheet_l().len() - 21);
 }
 
 #[test]
@@ -226,8 +228,8 @@ fn a_soak_ends_with_a_shrunk_list_that_can_be_replayed() {
             ..given
         }
     };
-    let failure = soak(&mut engine, 10_000, 4, |engine, case| {
-        compare(engine, case).map_err(|mismatch| mismatch.to_string())
+    let failure = soak(10_000, 4, |case| {
+        compare(&mut engine, case).map_err(|mismatch| mismatch.to_string())
     })
     .expect_err("some question is too deep");
     assert!(failure.detail.starts_with("question 0: oracle 16 0 0 0 "));
@@ -239,8 +241,8 @@ fn a_soak_ends_with_a_shrunk_list_that_can_be_replayed() {
 
 #[test]
 fn a_soak_that_passes_counts_its_answers() {
-    let soaked = soak(&mut Oracle::default(), 50, 4, |oracle, case| {
-        compare(oracle, case).map_err(|mismatch| mismatch.to_string())
+    let soaked = soak(50, 4, |case| {
+        compare(&mut Oracle::default(), case).map_err(|mismatch| mismatch.to_string())
     });
     let counts = soaked.expect("the oracle agrees with itself");
     assert!(counts.answers.values().sum::<u64>() > 10);

@@ -2,6 +2,7 @@
 
 mod common;
 mod comparing;
+mod page;
 mod sheet_l;
 mod stops;
 mod values;

@@ -1,0 +1,73 @@
+-- `attributes::open_definition` meets its contract: the figure if there is one, else there is a rule.
+use Rattle.sheets.specs.Scan.{figureOf}
+use Rattle.attributes.proofs.Writing.{answers}
+use Rattle.attributes.proofs.Opening.{no-place, figure-is, opens, opening-keeps}
+use mathlib.Core.Path.{_∙_, ap, sym}
+use borrow.Author.Needs.{needs}
+use Rattle.attributes.proofs.open_definition.Statement.{statement}
+use Rattle.attributes.proofs.open_definition.Tie as tie
+
+figure-requires : tie.Need-figure-requires
+figure-requires c κs = search needs
+
+enum-known-v : tie.Need-enum-known-v
+enum-known-v c = search needs
+
+enum-told : tie.Need-enum-told
+enum-told c = search needs
+
+open-rule-requires : tie.Need-open-rule-requires
+open-rule-requires c κs = record { rule = record { pair = c .before .before .before .before .before .before .before .before .before .before .before .pre .pair; all = c .before .before .before .before .before .before .before .before .before .before .before .pre .all; ruled = c .before .before .before .before .before .before .before .before .before .before .before .pre .defined (no-place _ _ (c .before .before .before .before .figure .ensures) (c .before .before .enum-told .given .1)) }; form = c .before .before .before .before .before .before .before .before .before .before .before .pre .form }
+
+same-length : tie.Need-same-length
+same-length c = search needs
+
+same-length-2 : tie.Need-same-length-2
+same-length-2 c = search needs
+
+returns : tie.Need-returns
+returns c = (opens _ _ _ _ _ _ _ _ (c .before .before .before .before .open-rule .ensures _) (sym (c .before .before .before .before .before .before .before .before .before .figure .ensures) ∙ ap figureOf (c .before .before .before .before .before .before .before .enum-told .given .1)), rw (opening-keeps _ _ _ _ _ _ _ _ (c .before .before .before .before .open-rule .ensures (c .before .before .before .before .before .before .before .before .before .before .before .before .before .before .before .before .args .store .now))) (c .before .before .before .before .before .before .before .before .before .before .before .before .before .before .before .before .pre .writes .linked))
+
+cast-cache-write : tie.Need-cast-cache-write
+cast-cache-write c = search needs
+
+cast-cache-write-2 : tie.Need-cast-cache-write-2
+cast-cache-write-2 c = search needs
+
+word-of-requires : tie.Need-word-of-requires
+word-of-requires c κs = search needs
+
+cache-write-requires : tie.Need-cache-write-requires
+cache-write-requires c κs = search needs
+
+answered-requires : tie.Need-answered-requires
+answered-requires c κs = search needs
+
+same-length-3 : tie.Need-same-length-3
+same-length-3 c = search needs
+
+same-length-4 : tie.Need-same-length-4
+same-length-4 c = search needs
+
+returns-2 : tie.Need-returns-2
+returns-2 c = (rw (c .answered .ensures, figure-is _ _ (c .before .before .before .before .before .before .before .before .before .before .before .before .figure .ensures) _ (c .before .before .before .before .before .before .before .before .before .before .v .given .1)) (answers _ _ _ _ _ _ (c .before .before .before .before .before .before .before .before .before .before .before .before .before .before .before .before .before .before .before .args .m) _ _ _ _ (c .before .before .before .before .before .before .word-of .ensures) (c .before .before .before .before .before .cache-write .ensures .0)), rw (c .answered .ensures) (c .before .before .before .before .before .cache-write .ensures .1))
+
+pub open-definition-spec : {M : Type 1} → statement M
+open-definition-spec =
+    tie.close
+    (tie.spec
+    figure-requires
+    enum-known-v
+    enum-told
+    open-rule-requires
+    same-length
+    same-length-2
+    returns
+    cast-cache-write
+    cast-cache-write-2
+    word-of-requires
+    cache-write-requires
+    answered-requires
+    same-length-3
+    same-length-4
+    returns-2)

@@ -1,0 +1,79 @@
+-- An accepted question is put to a checked store: its run, and what it brings.
+use mathlib.Core.List.{List}
+use mathlib.Core.Path.{_≡_, refl, sym, ap, _∙_}
+use Prim.Native.Nat.{ℕ, _/_}
+use native.Mathlib.Omega.{arith}
+use lib.ListN.{length}
+use Rattle.specs.specs.declared.Value.the-variants.{Unit as unit}
+use Rattle.specs.specs.Caching.{Ending, Ended, with-value, Reason, by}
+use Rattle.specs.specs.Ask.{endedAnswer, outcome, runQuestion, ask}
+use Rattle.stores.specs.Keys.{Linked}
+use Rattle.engine.specs.declared.Registers.{Registers}
+use Rattle.engine.specs.Steps.{Memory}
+use Rattle.engine.specs.Ready.{memoryOf}
+use Rattle.engine.specs.Loop.{Invariant, started, Final}
+use Rattle.engine.proofs.Loop.{question-short, invariant-start, invariant-answer, final-outcome}
+use Rattle.runs.specs.declared.RunEnd.{RunEnd}
+use Rattle.runs.specs.declared.RunEnd.the-variants as End
+use Rattle.runs.specs.Moves.{Running, keptBy, RunsTo}
+use Rattle.checks.specs.declared.Answer.{Answer}
+use Rattle.checks.specs.declared.Answer.the-variants.{Value, Refusal}
+use Rattle.checks.specs.Answers.{answerOf}
+use Rattle.calls.specs.Prepared.{Askable}
+
+module _ {sheet index : List ℕ} {attributes : ℕ} {question store links words forms : List ℕ} {kept budget : ℕ}
+    (a : Askable sheet index attributes question store links words forms kept budget) where
+  -- how the run ends
+  abbrev whole : Ended
+  whole = runQuestion (a .of) (length store / 12) budget (a .entries) (a .expression)
+
+  begins : Invariant sheet index question attributes budget store kept whole (memoryOf store words forms) (started question kept unit)
+  begins =
+      invariant-start sheet index question attributes budget store words forms kept unit (a .of) (a .entries) (a .expression) (a .accepts) (a .index-of)
+      (a .attributes-are) (a .passes) (a .form) (a .words-size) (a .forms-size)
+
+  module _ {first : Registers} (is : first ≡ started question kept unit) where
+    begins-at : Invariant sheet index question attributes budget store kept whole (memoryOf store words forms) first
+    begins-at = rw is begins
+
+    pub runs : Running sheet index question attributes budget store links words forms first
+    runs =
+        record {
+          lent = store;
+          kept = kept;
+          whole = whole;
+          invariant = begins-at;
+          linked = rw is (a .linked);
+          short = question-short (a .of) question (a .expression) (a .form);
+        }
+
+    -- what the run's contract says of this call
+    module _ {store′ links′ : List ℕ} (words′ forms′ : List ℕ) (r : RunEnd)
+        (ran : (lent : List ℕ) (kept : ℕ) (whole : Ended) → Invariant sheet index question attributes budget lent kept whole (memoryOf store words forms) first
+        → RunsTo sheet index question attributes budget budget lent kept whole (first .steps) (memoryOf store′ words′ forms′) r)
+        (linked : Linked store′ (keptBy r) links′) where
+      -- the answer and the bytes of the store, and the store's index
+      abbrev Brings : Answer → Type 0
+      Brings answer =
+          (answerOf answer ≡ ask sheet store kept question budget .answer)
+          × ((store′ ≡ ask sheet store kept question budget .store) × Linked store′ (answerOf answer .kept) links′)
+
+      ended : {ending : Ending} {m : Registers} (answer : Answer) → Final store kept whole ending (memoryOf store′ words′ forms′) m
+          → answerOf answer ≡ endedAnswer ending (m .steps) (m .kept) → Linked store′ (answerOf answer .kept) links′ → Brings answer
+      ended answer final is-answer index =
+          let brings =
+          invariant-answer sheet question budget store kept (a .of) (a .entries) (a .expression) (a .accepts) (a .passes) (a .permitted) (a .form)
+          ∙ final-outcome final in
+          (is-answer ∙ sym (ap (λ o. o .answer) brings), (sym (ap (λ o. o .store) brings), index))
+
+      pub finished : {m : Registers} → r ≡ End.Finishes m → Brings (Value (m .value) (m .steps) (m .kept))
+      unfolding answerOf endedAnswer keptBy
+      finished {m} end = ended (Value (m .value) (m .steps) (m .kept)) (rw end at (ran store kept whole begins-at)) refl (rw end at linked)
+
+      pub stopped : {number : ℕ} {m : Registers} → r ≡ End.Stops number m → Brings (Refusal number 0 (m .steps) (m .kept))
+      unfolding answerOf endedAnswer keptBy
+      stopped {number} {m} end = let (reason, is-number, final) = rw end at (ran store kept whole begins-at) in ended (Refusal number 0 (m .steps) (m .kept)) final (rw is-number) (rw end at linked)
+
+      -- No run pauses at its budget.
+      pub paused : {m : Registers} {A : Type 0} → r ≡ End.Pauses m → A
+      paused end = let (_, reached, left, _) = rw end at (ran store kept whole begins-at) in absurd (omega arith)

@@ -1,0 +1,182 @@
+// A question call (document 01, "Contracts"): the sheet, the store with its kept number, the question and the budget in; the answer out, and the
+// store with what the run kept. `ask` checks all of them; `ask_checked` is for a caller who has checked the sheet and indexed the store.
+use checks::Answer;
+use checks::Verdict;
+use engine::Registers;
+use runs::RunEnd;
+use sheets::SheetCheck;
+use specs::Value;
+use stores::StoreCheck;
+ghost use mathlib.Core.Path.{_≡_};
+ghost use Rattle.specs.specs.declared.Value.the-variants.{Unit as unit};
+ghost use Rattle.specs.specs.Ask.{ask as called};
+ghost use Rattle.stores.specs.Keys.{Linked};
+ghost use Rattle.checks.specs.Answers.{answerOf};
+ghost use Rattle.engine.specs.Loop.{started};
+ghost use Rattle.calls.specs.Prepared.{PreparedSheet, PreparedStore, Askable};
+
+// The registers before the first byte of a question.
+fn begin(question: &[u8], kept: usize) -> Registers
+    ensures { λ r. ⌜ r ≡ started (now (question .entry)) kept unit ⌝ }
+{
+    Registers {
+        returning: false,
+        at: 0,
+        end: question.len(),
+        frames: 0,
+        forms: 0,
+        kept,
+        steps: 0,
+        value: Value::Unit,
+    }
+}
+
+// An accepted question with a permitted budget is put to a checked store.
+fn put<'a>(
+    sheet: &'a [u8],
+    index: &[u32],
+    attributes: usize,
+    question: &'a [u8],
+    store: &mut [u8],
+    links: &mut [u32],
+    frames: &mut [u64],
+    forms: &mut [u32],
+    kept: usize,
+    budget: usize,
+) -> Answer
+    requires { ⌜ Askable (now sheet) (now index) attributes (now question) (now store) (now links) (now frames) (now forms) kept budget ⌝ }
+    ensures { λ r. ⌜ answerOf r ≡ called (now (sheet .entry)) (now (store .entry)) kept (now (question .entry)) budget .answer ⌝ }
+    ensures { λ _. ⌜ now (store .exit) ≡ called (now (sheet .entry)) (now (store .entry)) kept (now (question .entry)) budget .store ⌝ }
+    ensures { λ r. ⌜ Linked (now (store .exit)) (answerOf r .kept) (now (links .exit)) ⌝ }
+{
+    let first = begin(question, kept);
+    match runs::run(
+        sheet,
+        index,
+        attributes,
+        question,
+        store,
+        links,
+        frames,
+        forms,
+        budget,
+        budget,
+        first,
+    ) {
+        RunEnd::Finishes(m) => {
+            let value = m.value;
+            Answer::Value(value, m.steps, m.kept)
+        }
+        RunEnd::Stops(number, m) => Answer::Refusal(number, 0, m.steps, m.kept),
+        // No run pauses at its budget: it is spent there.
+        RunEnd::Pauses(m) => Answer::Refusal(15, 0, m.steps, m.kept),
+    }
+}
+
+// A question to a sheet that was accepted and indexed, with so many attributes and nodes, and to a store that was checked and indexed: what
+// `ask` answers, at the cost of the question's own check and its steps. The store is indexed afterwards with the kept number of the answer.
+pub fn ask_checked<'a>(
+    sheet: &'a [u8],
+    index: &[u32],
+    attributes: usize,
+    nodes: usize,
+    question: &'a [u8],
+    store: &mut [u8],
+    kept: usize,
+    budget: usize,
+    links: &mut [u32],
+    frames: &mut [u64; 16640],
+    forms: &mut [u32; 256],
+) -> Answer
+    requires { ⌜ PreparedSheet (now sheet) (now index) attributes nodes ⌝ }
+    requires { ⌜ PreparedStore (now sheet) (now store) kept (now links) ⌝ }
+    ensures { λ r. ⌜ answerOf r ≡ called (now (sheet .entry)) (now (store .entry)) kept (now (question .entry)) budget .answer ⌝ }
+    ensures { λ _. ⌜ now (store .exit) ≡ called (now (sheet .entry)) (now (store .entry)) kept (now (question .entry)) budget .store ⌝ }
+    ensures { λ r. ⌜ PreparedStore (now (sheet .entry)) (now (store .exit)) (answerOf r .kept) (now (links .exit)) ⌝ }
+{
+    match checks::check_question(sheet, attributes, nodes, question, budget) {
+        Verdict::Refused(number, place) => checks::refuse(number, place, kept),
+        Verdict::Accepted(_, _) => put(
+            sheet,
+            index,
+            attributes,
+            question,
+            store,
+            links,
+            frames,
+            forms,
+            kept,
+            budget,
+        ),
+    }
+}
+
+// A question whose sheet is accepted: the store's check, then the question.
+fn ask_store<'a>(
+    sheet: &'a [u8],
+    index: &[u32],
+    attributes: usize,
+    nodes: usize,
+    question: &'a [u8],
+    store: &mut [u8],
+    kept: usize,
+    budget: usize,
+    links: &mut [u32; 2048],
+    frames: &mut [u64; 16640],
+    forms: &mut [u32; 256],
+) -> Answer
+    requires { ⌜ PreparedSheet (now sheet) (now index) attributes nodes ⌝ }
+    ensures { λ r. ⌜ answerOf r ≡ called (now (sheet .entry)) (now (store .entry)) kept (now (question .entry)) budget .answer ⌝ }
+    ensures { λ _. ⌜ now (store .exit) ≡ called (now (sheet .entry)) (now (store .entry)) kept (now (question .entry)) budget .store ⌝ }
+{
+    match stores::check(sheet, attributes, nodes, store, kept, links) {
+        StoreCheck::Refused(number, place) => checks::refuse(number, place, kept),
+        StoreCheck::Accepted => ask_checked(
+            sheet,
+            index,
+            attributes,
+            nodes,
+            question,
+            store,
+            kept,
+            budget,
+            links,
+            frames,
+            forms,
+        ),
+    }
+}
+
+// A question call. The indexes, the frames and the forms are scratch: nothing is asked of what they hold, and nothing is said of what they hold
+// afterwards.
+pub fn ask<'a>(
+    sheet: &'a [u8],
+    question: &'a [u8],
+    store: &mut [u8],
+    kept: usize,
+    budget: usize,
+    index: &mut [u32; 33280],
+    links: &mut [u32; 2048],
+    frames: &mut [u64; 16640],
+    forms: &mut [u32; 256],
+) -> Answer
+    ensures { λ r. ⌜ answerOf r ≡ called (now (sheet .entry)) (now (store .entry)) kept (now (question .entry)) budget .answer ⌝ }
+    ensures { λ _. ⌜ now (store .exit) ≡ called (now (sheet .entry)) (now (store .entry)) kept (now (question .entry)) budget .store ⌝ }
+{
+    match sheets::check(sheet, index) {
+        SheetCheck::Refused(number, place) => checks::refuse(number, place, kept),
+        SheetCheck::Accepted(attributes, nodes) => ask_store(
+            sheet,
+            index,
+            attributes,
+            nodes,
+            question,
+            store,
+            kept,
+            budget,
+            links,
+            frames,
+            forms,
+        ),
+    }
+}

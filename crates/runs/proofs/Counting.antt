@@ -1,0 +1,90 @@
+-- A counted step is taken below the limit alone: so a run that pauses has counted to its limit.
+use mathlib.Core.Bool.{Bool, true, false}
+use mathlib.Core.Option.{Option, none, some}
+use mathlib.Core.List.{List, [], _∷_}
+use mathlib.Core.Path.{_≡_}
+use Prim.Native.Nat.{ℕ, _%_, _≤_, _<_}
+use native.Mathlib.Omega.{arith}
+use lib.Dec.{leb, eqb}
+use borrow.Author.Tests.{leb-false}
+use Rattle.specs.specs.Values.{null, truth}
+use Rattle.specs.specs.declared.Value.{Value}
+use Rattle.specs.specs.Expressions.{Head, base-literal, function-literal, if-head, application-head, attribute-head, this-head, parameter-head, no-head, headOf}
+use Rattle.engine.specs.declared.Registers.{Registers}
+use Rattle.engine.specs.Steps.{Memory, Stepped, goes, waits, finishes, stops, readHead, takeIf, within, closeForm, openRule, openFigure, takeKept, attributeDue, give, readNext, stepOf}
+use Rattle.engine.proofs.Words.{by-test}
+
+module _ (sheet index : List ℕ) (attributes limit : ℕ) (mem : Memory) (m : Registers) where
+  -- the count stays within the limit
+  abbrev Counts : Stepped → Type 0
+  Counts (goes m′ mem′) = m .steps ≤ limit → m′ .steps ≤ limit
+  Counts waits = Unit {0}
+  Counts finishes = Unit {0}
+  Counts (stops number) = Unit {0}
+
+  head-counts : (h : Head) (l : List ℕ) → Counts (readHead sheet mem m h l)
+  unfolding readHead
+  head-counts (base-literal t) l = λ h. h
+  head-counts function-literal l = λ h. h
+  head-counts if-head l = λ h. h
+  head-counts application-head l = λ h. h
+  head-counts attribute-head l = λ h. h
+  head-counts this-head l = λ h. h
+  head-counts parameter-head l = λ h. h
+  head-counts no-head l = tt
+
+  reading-counts : (l : List ℕ) → Counts (readNext sheet index attributes mem m l)
+  unfolding readNext
+  reading-counts [] = tt
+  reading-counts (c ∷ l) = head-counts (headOf c) l
+
+  within-counts : (budget : ℕ) (next : Stepped) → (m .steps < limit → Counts next) → Counts (within budget limit m next)
+  unfolding within
+  within-counts budget next h =
+      by-test Counts (leb budget (m .steps)) {x = stops 15} (λ _. tt)
+      (λ _. by-test Counts (leb limit (m .steps)) {x = waits} (λ _. tt) (λ before. h (leb-false _ _ before)))
+
+  if-counts : m .steps < limit → (skip : ℕ) (b : Bool) → Counts (takeIf skip mem m b)
+  unfolding takeIf
+  if-counts before skip true = λ h. omega arith
+  if-counts before skip false = λ h. omega arith
+
+  figure-counts : m .steps < limit → (n a word : ℕ) (f : Option Value) → Counts (openFigure sheet index attributes mem m n a word f)
+  unfolding openFigure openRule
+  figure-counts before n a word none = λ h. omega arith
+  figure-counts before n a word (some v) = λ h. omega arith
+
+  kept-counts : m .steps < limit → (n a : ℕ) (f : Option ℕ) → Counts (takeKept sheet index attributes mem m n a f)
+  unfolding takeKept
+  kept-counts before n a none = figure-counts before n a _ _
+  kept-counts before n a (some j) = λ h. omega arith
+
+  attribute-counts : (budget n a : ℕ) → Counts (attributeDue sheet index attributes budget limit mem m n a)
+  unfolding attributeDue
+  attribute-counts budget n a =
+      by-test Counts (eqb n null) {x = stops 14} (λ _. tt) λ _.
+      by-test Counts (leb budget (m .steps)) {x = stops 15} (λ _. tt) λ _.
+      by-test Counts (leb 64 (m .forms)) {x = stops 16} (λ _. tt) λ _.
+      by-test Counts (leb limit (m .steps)) {x = waits} (λ _. tt) λ before. kept-counts (leb-false _ _ before) n a _
+
+  give-counts : (budget skip packed w : ℕ) → Counts (give sheet index attributes budget limit skip packed mem m w)
+  unfolding give closeForm
+  give-counts budget skip packed w =
+      by-test Counts (eqb (w % 8) 0) (λ _. within-counts budget _ (λ before. if-counts before skip (truth (m .value)))) λ _.
+      by-test Counts (eqb (w % 8) 1) (λ _ h. h) λ _.
+      by-test Counts (eqb (w % 8) 2) (λ _ h. h) λ _.
+      by-test Counts (eqb (w % 8) 3) (λ _. within-counts budget _ (λ before h. omega arith)) λ _.
+      by-test Counts (eqb (w % 8) 4) (λ _ h. h) λ _.
+      by-test Counts (eqb (w % 8) 6) (λ _ h. h) λ _.
+      attribute-counts budget _ _
+
+  move-counts : (question : List ℕ) (budget skip packed : ℕ) → Counts (stepOf sheet index attributes question budget limit skip packed mem m)
+  unfolding stepOf
+  move-counts question budget skip packed =
+      by-test Counts (m .returning)
+      (λ _. by-test Counts (eqb (m .frames) 0) {x = finishes} (λ _. tt) (λ _. give-counts budget skip packed _))
+      (λ _. reading-counts _)
+
+  pub counts-on : (question : List ℕ) (budget skip packed : ℕ) {m′ : Registers} {mem′ : Memory}
+      → stepOf sheet index attributes question budget limit skip packed mem m ≡ goes m′ mem′ → m .steps ≤ limit → m′ .steps ≤ limit
+  counts-on question budget skip packed e = rw e at (move-counts question budget skip packed)

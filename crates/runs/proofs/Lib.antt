@@ -1,0 +1,6 @@
+pub mod Limits
+pub mod Ready
+pub mod Giving
+pub mod Stepping
+pub mod Counting
+pub mod Rounds

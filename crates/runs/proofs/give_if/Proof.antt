@@ -1,0 +1,29 @@
+-- `runs::give_if` meets its contract, by the limits. The branch is measured only where it is passed over: its width is there all the same.
+use Rattle.runs.proofs.Limits.{within-spent, within-waits, within-goes}
+use Rattle.engine.proofs.Widths.{width-of}
+use Rattle.attributes.specs.Due.{steppedOf}
+use mathlib.Core.Path.{refl, _∙_}
+use borrow.Author.Needs.{needs}
+use Rattle.runs.proofs.give_if.Statement.{statement}
+use Rattle.runs.proofs.give_if.Tie as tie
+
+returns : tie.Need-returns
+unfolding steppedOf
+returns c = let (skip, width) = width-of (c .before .before .before .before .args .e .now) in (record { skip = skip; width = width; after = λ store forms. within-spent _ _ (c .before .before .before .before .args .m) _ (c .if1 .taken) }, (λ store forms. refl, refl))
+
+returns-2 : tie.Need-returns-2
+unfolding steppedOf
+returns-2 c = let (skip, width) = width-of (c .before .before .before .before .before .before .args .e .now) in (record { skip = skip; width = width; after = λ store forms. within-waits _ _ (c .before .before .before .before .before .before .args .m) _ (c .before .before .if1 .left) (c .if2 .taken) }, (λ store forms. refl, refl))
+
+take-if-requires : tie.Need-take-if-requires
+take-if-requires c κs = search needs
+
+same-length : tie.Need-same-length
+same-length c = search needs
+
+returns-3 : tie.Need-returns-3
+unfolding steppedOf
+returns-3 c = (record { skip = c .before .before .take-if .ensures .0 .skip; width = c .before .before .take-if .ensures .0 .width; after = λ store forms. c .before .before .take-if .ensures .0 .after store forms ∙ within-goes _ _ (c .before .before .before .before .before .before .before .before .before .before .args .m) _ (c .before .before .before .before .before .before .if1 .left) (c .before .before .before .before .if2 .left) }, (λ store forms. tt, c .before .before .take-if .ensures .1))
+
+pub give-if-spec : {M : Type 1} → statement M
+give-if-spec = tie.close (tie.spec returns returns-2 take-if-requires same-length returns-3)

@@ -1,0 +1,75 @@
+-- What a move and a run of the code rely on and come to, by the move on registers and memory (Steps.antt of crate engine) and by what holds from
+-- move to move (Loop.antt there).
+use mathlib.Core.List.{List}
+use mathlib.Core.Path.{_≡_}
+use Prim.Native.Nat.{ℕ, _≤_, _<_}
+use lib.ListN.{length}
+use Rattle.specs.specs.Caching.{with-value, Reason, by, Ended}
+use Rattle.specs.specs.Ask.{reasonNumber}
+use Rattle.pieces.specs.Pieces.{restOf}
+use Rattle.stores.specs.Keys.{Linked}
+use Rattle.engine.specs.declared.Registers.{Registers}
+use Rattle.engine.specs.Steps.{Memory, give, stepOf}
+use Rattle.engine.specs.Represents.{Represents, WidthOf, PacksIn}
+use Rattle.engine.specs.Ready.{memoryOf}
+use Rattle.engine.specs.Loop.{Invariant, Final}
+use Rattle.attributes.specs.declared.Step.{Step}
+use Rattle.attributes.specs.Due.{steppedOf, keptAfter, Still}
+use Rattle.runs.specs.declared.RunEnd.{RunEnd}
+use Rattle.runs.specs.declared.RunEnd.the-variants.{Pauses, Finishes, Stops}
+
+-- ---- A move
+
+-- Registers and memory hold a machine, the store is indexed, and the question is of its length.
+pub record MoveReady (sheet index question : List ℕ) (attributes : ℕ) (store links words forms : List ℕ) (m : Registers) : Type 0 where
+  pub represents : Represents sheet index question attributes (memoryOf store words forms) m
+  pub linked : Linked store (m .kept) links
+  pub short : length question ≤ 256
+
+-- What is the same of both kinds of move: the width and the packed value that it used, what it left where it does not go on, and the store's
+-- index.
+module _ (sheet question : List ℕ) (mem mem′ : Memory) (links : List ℕ) (m : Registers) where
+  pub record MovesBy (r : Step) (P : ℕ → ℕ → Type 0) : Type 0 where
+    pub skip : ℕ
+    pub packed : ℕ
+    pub width : WidthOf (restOf sheet question (m .forms) (m .at) (m .end)) skip
+    pub packs : PacksIn mem m packed
+    pub moved : P skip packed
+    pub still : Still r mem mem′
+    pub linked : Linked (mem′ .store) (keptAfter r m) links
+
+module _ (sheet index question : List ℕ) (attributes budget limit : ℕ) (mem mem′ : Memory) (links : List ℕ) (m : Registers) where
+  -- a value is given to the frame whose word is w
+  abbrev pub GivesTo : ℕ → Step → Type 0
+  GivesTo w r =
+      MovesBy sheet question mem mem′ links m r (λ skip packed. steppedOf r mem′ ≡ give sheet index attributes budget limit skip packed mem m w)
+
+  abbrev pub StepsTo : Step → Type 0
+  StepsTo r =
+      MovesBy sheet question mem mem′ links m r (λ skip packed. steppedOf r mem′ ≡ stepOf sheet index attributes question budget limit skip packed mem m)
+
+-- ---- A run
+
+-- A run is under way: what holds from move to move holds, of some call.
+pub record Running (sheet index question : List ℕ) (attributes budget : ℕ) (store links words forms : List ℕ) (m : Registers) : Type 0 where
+  pub lent : List ℕ
+  pub kept : ℕ
+  pub whole : Ended
+  pub invariant : Invariant sheet index question attributes budget lent kept whole (memoryOf store words forms) m
+  pub linked : Linked store (m .kept) links
+  pub short : length question ≤ 256
+
+-- the kept number where a run leaves off
+unfoldable pub keptBy : RunEnd → ℕ
+keptBy (Pauses m) = m .kept
+keptBy (Finishes m) = m .kept
+keptBy (Stops number m) = m .kept
+
+-- A run that ends so, of a call that was lent these bytes with so many kept entries, leaves off: paused with a counted step due, at the limit
+-- unless it was past it at first; with its value; or with the number of its reason.
+module _ (sheet index question : List ℕ) (attributes budget limit : ℕ) (lent : List ℕ) (kept : ℕ) (whole : Ended) (first : ℕ) (mem : Memory) where
+  abbrev pub RunsTo : RunEnd → Type 0
+  RunsTo (Pauses m) =
+      Invariant sheet index question attributes budget lent kept whole mem m × (limit ≤ m .steps) × (m .steps < budget) × (first ≤ limit → m .steps ≡ limit)
+  RunsTo (Finishes m) = Final lent kept whole (with-value (m .value)) mem m
+  RunsTo (Stops number m) = (reason : Reason) × (reasonNumber reason ≡ number) × Final lent kept whole (by reason) mem m

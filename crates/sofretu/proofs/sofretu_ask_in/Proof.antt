@@ -1,0 +1,21 @@
+-- The answer of `calls::ask` is laid out as it is.
+use Rattle.sofretu.specs.Six.{six}
+use mathlib.Core.Path.{_∙_, ap}
+use borrow.Author.Needs.{needs}
+use Rattle.sofretu.proofs.sofretu_ask_in.Statement.{statement}
+use Rattle.sofretu.proofs.sofretu_ask_in.Tie as tie
+
+ask-requires : tie.Need-ask-requires
+ask-requires c κs = search needs
+
+lay-requires : tie.Need-lay-requires
+lay-requires c κs = search needs
+
+same-length : tie.Need-same-length
+same-length c = search needs
+
+returns : tie.Need-returns
+returns c = (c .lay .ensures ∙ ap six (c .before .before .before .before .ask .ensures .0), c .before .before .before .before .ask .ensures .1)
+
+pub sofretu-ask-in-spec : {M : Type 1} → statement M
+sofretu-ask-in-spec = tie.close (tie.spec ask-requires lay-requires same-length returns)

@@ -1,0 +1,125 @@
+/* The proved settings engine: the C calls of libsofretu.a (`rt staticlib sofretu`).
+ *
+ * A sheet, a question and a store are bytes, each a pointer and a length; "document 01" is the paper "Settings sheets evaluated by
+ * Saiga". Whatever the bytes are, every call ends, reads nothing outside what it was given, and writes nothing but what is lent to
+ * it without `const`. Nothing is kept between calls and no system call is made; calls that write different memory can run at the
+ * same time.
+ *
+ * Of every call it is required that
+ *   - each pointer leads to as many bytes or numbers as its length or its array says (of length 0 it may be any pointer);
+ *   - what is written (store, scratch, answer, place, found) overlaps nothing else that the call is given;
+ *   - the thread has the stack that is said below.
+ * Two calls require more, which is said with them.
+ *
+ * Stack: sofretu_ask and sofretu_check have their scratch on the stack: 512 KB suffice. The other calls: 256 KB suffice.
+ */
+#ifndef SOFRETU_H
+#define SOFRETU_H
+
+#include <stdint.h>
+
+#ifdef __cplusplus
+extern "C" {
+#endif
+
+/* The lengths of the lent arrays. */
+#define SOFRETU_INDEX 33280
+#define SOFRETU_LINKS 2048
+#define SOFRETU_FRAMES 16640
+#define SOFRETU_FORMS 256
+#define SOFRETU_FIELDS 6
+
+/* A store's entry has 12 bytes: node (2), attribute (1), zero (1), parameter (4), value (4), little-endian. A store has room for 0 to
+ * 1,024 of them, and its length is 12 times that; `kept` of them, the first ones, are in use. */
+#define SOFRETU_ENTRY 12
+#define SOFRETU_MOST_ENTRIES 1024
+
+/* The greatest budget of counted steps. */
+#define SOFRETU_MOST_STEPS 1000000
+
+/* The fields of an answer. */
+enum {
+    SOFRETU_NUMBER, /* 0 for a value, else the stop's number */
+    SOFRETU_PLACE,  /* stops 2 to 7: the offset of the faulty command; 8: node * 32 + attribute; 10: the entry's number; else 0 */
+    SOFRETU_TYPE,   /* 0 Unit, 1 Bool, 2 Int, 3 Node; 0 under any stop */
+    SOFRETU_VALUE,  /* Unit 0; Bool 0 or 1; Int as it is; Node its number, or 65535 for null; 0 under any stop */
+    SOFRETU_STEPS,  /* the counted steps; 0 under stops 1 to 13 */
+    SOFRETU_KEPT    /* the number kept afterwards; under stops 1 to 13 as lent (in two's complement if above 2^63 - 1) */
+};
+
+/* The stops, by who causes them. */
+enum {
+    /* the sheet's author */
+    SOFRETU_SHEET_LENGTH = 1,      /* over 65,536 bytes */
+    SOFRETU_COMMAND = 2,           /* unknown, misplaced or cut command, no end command, bytes after it */
+    SOFRETU_TOO_MANY = 3,          /* a 33rd attribute or a 1,025th node */
+    SOFRETU_OPERAND = 4,           /* a command's operand outside its values or undeclared */
+    SOFRETU_SECOND_DEFINITION = 5, /* a second figure for a pair, or a second rule for a kind and attribute */
+    SOFRETU_RULE_FORM = 6,         /* a rule's length or expression is not of the form */
+    SOFRETU_RULE_TYPE = 7,         /* a rule is not of its attribute's type */
+    SOFRETU_NO_DEFINITION = 8,     /* a pair has neither figure nor rule */
+    /* the program that lends the store */
+    SOFRETU_STORE_SHAPE = 9,       /* length no multiple of 12 or over 12,288, or kept above the capacity */
+    SOFRETU_STORE_ENTRY = 10,      /* a kept entry is none of this sheet's, or repeats an occurrence */
+    /* the person who puts the question */
+    SOFRETU_BUDGET = 11,           /* above 1,000,000 */
+    SOFRETU_QUESTION_FORM = 12,    /* not an expression of 1 to 256 bytes */
+    SOFRETU_QUESTION_TYPE = 13,    /* not of base type */
+    /* the run */
+    SOFRETU_NULL = 14,             /* an attribute of null was due */
+    SOFRETU_SPENT = 15,            /* a counted step was due with the whole budget used */
+    SOFRETU_DEPTH = 16             /* an attribute was due inside 64 open ones */
+};
+
+/* One question with all its checks. Under stops 1 to 13 the store stays as it was lent. */
+void sofretu_ask(const uint8_t *sheet, uint64_t sheet_len,
+                 const uint8_t *question, uint64_t question_len,
+                 uint8_t *store, uint64_t store_len, uint64_t kept,
+                 uint64_t budget,
+                 int64_t answer[SOFRETU_FIELDS]);
+
+/* The same with lent scratch. Nothing is asked of what the scratch holds, and what it holds afterwards is free. */
+void sofretu_ask_in(const uint8_t *sheet, uint64_t sheet_len,
+                    const uint8_t *question, uint64_t question_len,
+                    uint8_t *store, uint64_t store_len, uint64_t kept,
+                    uint64_t budget,
+                    uint32_t index[SOFRETU_INDEX], uint32_t links[SOFRETU_LINKS],
+                    uint64_t frames[SOFRETU_FRAMES], uint32_t forms[SOFRETU_FORMS],
+                    int64_t answer[SOFRETU_FIELDS]);
+
+/* The check of a sheet, once for many questions: 0, or the stop's number, 1 to 8. `found` is place, attributes, nodes: the place is 0 of
+ * an accepted sheet, the other two are 0 of a refused one. Fills `index`. */
+uint32_t sofretu_check_sheet(const uint8_t *sheet, uint64_t sheet_len,
+                             uint32_t index[SOFRETU_INDEX], uint64_t found[3]);
+
+/* The check of a store, of a sheet that was accepted with these numbers of attributes and nodes: 0, 9 or 10, with its place. Fills `links`.
+ * REQUIRES: attributes <= sheet_len / 3, which an accepted sheet's number meets. */
+uint32_t sofretu_check_store(const uint8_t *sheet, uint64_t sheet_len,
+                             uint64_t attributes, uint64_t nodes,
+                             const uint8_t *store, uint64_t store_len, uint64_t kept,
+                             uint32_t links[SOFRETU_LINKS], uint64_t *place);
+
+/* A question to a checked sheet and a checked store: stops 11 to 16 are left. The number kept for the next question is the answer's.
+ * REQUIRES: `index`, `attributes` and `nodes` as sofretu_check_sheet left them when it accepted these sheet bytes; `links` as
+ * sofretu_check_store, when it accepted these store bytes with this `kept`, or an earlier call of this function left them.
+ * With anything else the call has no meaning, and may read or write anywhere. Nothing is asked of `frames` and `forms`. */
+void sofretu_ask_checked(const uint8_t *sheet, uint64_t sheet_len,
+                         uint64_t attributes, uint64_t nodes, const uint32_t index[SOFRETU_INDEX],
+                         const uint8_t *question, uint64_t question_len,
+                         uint8_t *store, uint64_t store_len, uint64_t kept,
+                         uint64_t budget,
+                         uint32_t links[SOFRETU_LINKS],
+                         uint64_t frames[SOFRETU_FRAMES], uint32_t forms[SOFRETU_FORMS],
+                         int64_t answer[SOFRETU_FIELDS]);
+
+/* The first of stops 1 to 13 that holds of a call's arguments, with its place; or 0. */
+uint32_t sofretu_check(const uint8_t *sheet, uint64_t sheet_len,
+                       const uint8_t *question, uint64_t question_len,
+                       const uint8_t *store, uint64_t store_len, uint64_t kept,
+                       uint64_t budget, uint64_t *place);
+
+#ifdef __cplusplus
+}
+#endif
+
+#endif

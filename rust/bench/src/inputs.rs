@@ -1,0 +1,263 @@
+//! The inputs of the rows, made in code and without chance. A question of many steps is made of few bytes by attributes
+//! that ask the same again, on nodes or with parameters that the store has not kept.
+
+use crate::programs::Input;
+use crate::write::*;
+
+/// Codes of types.
+const UNIT_TYPE: u8 = 0;
+const INT_TYPE: u8 = 2;
+const NODE_TYPE: u8 = 3;
+
+const NULL: i32 = 65_535;
+
+/// A store with nothing kept.
+fn empty(capacity: usize) -> Vec<u8> {
+    vec![0; 12 * capacity]
+}
+
+/// Sheet L of document 01, with D, the dial of node 1, and an empty store: 8 steps.
+pub fn sheet_l() -> Input {
+    const UP: u8 = 0;
+    const OWN: u8 = 1;
+    const DIAL: u8 = 2;
+    let own = of(&THIS, OWN, &UNIT);
+    let inherited = of(&of(&THIS, UP, &UNIT), DIAL, &UNIT);
+    let dial = if_else(&binary(EQUAL, &own, &int(0)), &inherited, &own);
+    let sheet = [
+        attribute(NODE_TYPE, UNIT_TYPE),
+        attribute(INT_TYPE, UNIT_TYPE),
+        attribute(INT_TYPE, UNIT_TYPE),
+        node(0),
+        node(1),
+        node(1),
+        figure(0, UP, NULL),
+        figure(0, OWN, 700),
+        figure(1, UP, 0),
+        figure(1, OWN, 0),
+        figure(2, UP, 0),
+        figure(2, OWN, 811),
+        rule(0, DIAL, &own),
+        rule(1, DIAL, &dial),
+        END.to_vec(),
+    ];
+    Input {
+        sheet: sheet.concat(),
+        question: of(&node_literal(1), DIAL, &UNIT),
+        store: empty(1_024),
+        kept: 0,
+    }
+}
+
+/// The nodes of a chain: its head and 60 more.
+const CHAIN: u16 = 61;
+const CHAINS: u16 = 16;
+
+/// The dial of the last node of a chain.
+fn end_of_chain(chain: u16) -> Vec<u8> {
+    of(&node_literal(CHAIN * chain + CHAIN - 1), 1, &UNIT)
+}
+
+/// Chains of nodes: attribute 0 is the node before, and attribute 1 that of the node before, a figure at the chain's head.
+/// The last node's opens 60 forms. The question is the sum of 8 chains: 982 steps, of which 968 are kept.
+pub fn chains() -> Input {
+    let nodes = 0..CHAINS * CHAIN;
+    let figures = nodes.clone().flat_map(|number| match number % CHAIN {
+        0 => [figure(number, 0, NULL), figure(number, 1, number.into())].concat(),
+        _ => figure(number, 0, i32::from(number) - 1),
+    });
+    let sheet = [
+        attribute(NODE_TYPE, UNIT_TYPE),
+        attribute(INT_TYPE, UNIT_TYPE),
+        node(0).repeat(nodes.len()),
+        figures.collect(),
+        rule(0, 1, &of(&of(&THIS, 0, &UNIT), 1, &UNIT)),
+        END.to_vec(),
+    ];
+    Input {
+        sheet: sheet.concat(),
+        question: sum((0..8).map(end_of_chain)),
+        store: empty(1_024),
+        kept: 0,
+    }
+}
+
+/// The chains with a question whose figure is kept: 1 step.
+pub fn deepest(chains: &Input) -> Input {
+    Input {
+        question: end_of_chain(7),
+        ..chains.clone()
+    }
+}
+
+/// Hops along a ring of 1,021 nodes: attribute 0 is the node 7 places on, and attribute k is attribute k - 1 twice. Nothing
+/// but AttrApp is counted. With a store the question is attribute 19 of node 0: 873,813 steps, of which some two in ten find
+/// a kept value, once the store is full. With capacity 0 nothing is kept and it is three attributes one of the other:
+/// 917,501 steps.
+pub fn hops(capacity: usize) -> Input {
+    const RING: u16 = 1_021;
+    const LAST: u8 = 19;
+    let twice = |k: u8| of(&of(&THIS, k - 1, &UNIT), k - 1, &UNIT);
+    let sheet = [
+        attribute(NODE_TYPE, UNIT_TYPE).repeat(usize::from(LAST) + 1),
+        node(0).repeat(RING.into()),
+        (0..RING)
+            .flat_map(|number| figure(number, 0, ((number + 7) % RING).into()))
+            .collect(),
+        (1..=LAST).flat_map(|k| rule(0, k, &twice(k))).collect(),
+        END.to_vec(),
+    ];
+    let asked: &[u8] = match capacity {
+        0 => &[LAST - 3, LAST - 2, LAST - 1],
+        _ => &[LAST],
+    };
+    Input {
+        sheet: sheet.concat(),
+        question: asked
+            .iter()
+            .fold(node_literal(0), |node, k| of(&node, *k, &UNIT)),
+        store: empty(capacity),
+        kept: 0,
+    }
+}
+
+/// Attribute 0 of p adds up six choices between a sum and a difference, 48 steps of IF and application; attribute 1 adds it
+/// up 31 times and attribute 2 that 31 times. The question is the sum of 18 parameters with capacity 0: 882,772 steps.
+pub fn branches() -> Input {
+    let choice = |i: i32| {
+        if_else(
+            &not(&binary(LE, &PARAMETER, &int(3 * i))),
+            &binary(SUBTRACT, &PARAMETER, &int(i)),
+            &binary(ADD, &PARAMETER, &int(i)),
+        )
+    };
+    let work = (0..6).fold(PARAMETER.to_vec(), |work, i| binary(ADD, &choice(i), &work));
+    let often = |k: u8| sum((0..31).map(|_| of(&THIS, k, &PARAMETER)));
+    let sheet = [
+        attribute(INT_TYPE, INT_TYPE).repeat(3),
+        node(0),
+        rule(0, 0, &work),
+        rule(0, 1, &often(0)),
+        rule(0, 2, &often(1)),
+        END.to_vec(),
+    ];
+    Input {
+        sheet: sheet.concat(),
+        question: sum((0..18).map(|p| of(&node_literal(0), 2, &int(p)))),
+        store: empty(0),
+        kept: 0,
+    }
+}
+
+/// Attribute 0 of p is p up to 1, and else the sum of those of p - 1 and p - 2. The question is the sum of 18 nodes' with
+/// parameter 40: 7,882 steps, which keep a figure for each node and parameter, 738 in all.
+pub fn parameterised() -> Input {
+    const NODES: u16 = 18;
+    let before = |n: i32| of(&THIS, 0, &binary(SUBTRACT, &PARAMETER, &int(n)));
+    let fibonacci = if_else(
+        &binary(LE, &PARAMETER, &int(1)),
+        &PARAMETER,
+        &binary(ADD, &before(1), &before(2)),
+    );
+    let sheet = [
+        attribute(INT_TYPE, INT_TYPE),
+        node(0).repeat(NODES.into()),
+        rule(0, 0, &fibonacci),
+        END.to_vec(),
+    ];
+    Input {
+        sheet: sheet.concat(),
+        question: sum((0..NODES).map(|number| of(&node_literal(number), 0, &int(40)))),
+        store: empty(1_024),
+        kept: 0,
+    }
+}
+
+/// A sheet of exactly `size` bytes, whose parts grow together: a node for every 64 bytes, each with 4 figures, a kind for
+/// every 4 KiB or part of it, each with 12 rules in the bytes left. A figure is asked that is kept, in a store of as many
+/// entries as there are nodes.
+pub fn sized(size: usize) -> Input {
+    const FIGURES: u8 = 4;
+    const RULES: u8 = 12;
+    let nodes = (size / 64) as u16;
+    let kinds = size.div_ceil(4_096) as u8;
+    let declared = [
+        attribute(INT_TYPE, UNIT_TYPE).repeat((FIGURES + RULES).into()),
+        (0..nodes)
+            .flat_map(|number| node((number % u16::from(kinds)) as u8))
+            .collect(),
+    ];
+    let pairs = (0..nodes).flat_map(|number| (0..FIGURES).map(move |a| (number, a)));
+    let value = |number: u16, a: u8| i32::from(number) * 4 + i32::from(a);
+    let mut sheet = declared.concat();
+    sheet.extend(pairs.flat_map(|(number, a)| figure(number, a, value(number, a))));
+    let rules = usize::from(kinds) * usize::from(RULES);
+    let left = size - sheet.len() - END.len() - 5 * rules;
+    for number in 0..rules {
+        let length = left / rules + usize::from(number < left % rules);
+        let kind = (number / usize::from(RULES)) as u8;
+        let attribute = FIGURES + (number % usize::from(RULES)) as u8;
+        sheet.extend(rule(kind, attribute, &int_of_length(length)));
+    }
+    sheet.extend(END);
+    assert_eq!(sheet.len(), size);
+    Input {
+        sheet,
+        question: of(&node_literal(nodes - 1), 0, &UNIT),
+        store: (0..nodes)
+            .flat_map(|number| entry(number, 0, 0, value(number, 0)))
+            .collect(),
+        kept: nodes.into(),
+    }
+}
+
+/// An Int expression of a length from 25 on, in sums and choices of figures and numbers.
+fn int_of_length(length: usize) -> Vec<u8> {
+    let figure = |number: usize| of(&THIS, (number % 4) as u8, &UNIT);
+    let mut expression = figure(0);
+    let room = length - expression.len();
+    // Parts of 7 to 9 bytes each.
+    let parts = room.div_ceil(9);
+    for number in 0..parts {
+        let width = room / parts + usize::from(number < room % parts);
+        expression = match width {
+            7 => if_else(&TRUE, &expression, &figure(number)),
+            8 => binary(ADD, &expression, &figure(number)),
+            _ => binary(ADD, &expression, &int(number as i32)),
+        };
+    }
+    assert_eq!(expression.len(), length);
+    expression
+}
+
+#[cfg(test)]
+mod tests {
+    use super::*;
+    use oracle::ask;
+
+    /// Steps and kept of a question that is answered with a value.
+    fn counts(mut input: Input) -> (i64, i64) {
+        let given = ask(
+            &input.sheet,
+            &mut input.store,
+            input.kept,
+            &input.question,
+            1_000_000,
+        );
+        assert_eq!(given.number, 0);
+        (given.steps, given.kept)
+    }
+
+    #[test]
+    fn the_counts_are_as_said() {
+        assert_eq!(counts(sheet_l()), (8, 5));
+        assert_eq!(counts(chains()), (982, 968));
+        assert_eq!(counts(hops(1_024)), (873_813, 1_024));
+        assert_eq!(counts(hops(0)), (917_501, 0));
+        assert_eq!(counts(branches()), (882_772, 0));
+        assert_eq!(counts(parameterised()), (7_882, 738));
+        assert_eq!(counts(sized(1_024)), (1, 16));
+        assert_eq!(counts(sized(16_384)), (1, 256));
+        assert_eq!(counts(sized(65_536)), (1, 1_024));
+    }
+}

@@ -1,0 +1,247 @@
+//! The three programs that are measured, and the kinds of work that each can be given.
+
+use std::hint::black_box;
+use std::time::{Duration, Instant};
+
+use crate::library::{self, Fields};
+
+/// The budget of every question.
+const BUDGET: u64 = 1_000_000;
+
+/// What a program works on: a sheet, a question, and a store with a number kept.
+#[derive(Clone, Default)]
+pub struct Input {
+    pub sheet: Vec<u8>,
+    pub question: Vec<u8>,
+    pub store: Vec<u8>,
+    pub kept: u64,
+}
+
+/// What one run is. Whatever is not named is done once, before the time is taken.
+#[derive(Clone, Copy, PartialEq, Eq)]
+pub enum Work {
+    /// The store's check and the question.
+    Question,
+    /// The question alone, to one store.
+    Kept,
+    /// The whole call, in the program's own scratch.
+    Ask,
+    /// The whole call, in lent scratch. The second evaluator has no such call, and makes the other.
+    AskIn,
+    CheckSheet,
+    CheckStore,
+}
+
+/// What the last run of some brought: the answer's six fields, or a check's number, place and counts; and the store.
+#[derive(Clone, Debug, PartialEq, Eq)]
+pub struct Outcome {
+    pub fields: Fields,
+    pub store: Vec<u8>,
+}
+
+pub trait Program {
+    /// Does some work a number of times.
+    fn run(&mut self, work: Work, input: &Input, runs: u32) -> (Duration, Outcome);
+}
+
+/// The time of a number of runs, and what the last of them brought.
+fn timed(runs: u32, mut run: impl FnMut() -> Fields) -> (Duration, Fields) {
+    let start = Instant::now();
+    for _ in 1..runs {
+        black_box(run());
+    }
+    let fields = black_box(run());
+    (start.elapsed(), fields)
+}
+
+fn stopped(number: i64, place: i64) -> Fields {
+    [number, place, 0, 0, 0, 0]
+}
+
+fn accepted(attributes: i64, nodes: i64) -> Fields {
+    [0, 0, attributes, nodes, 0, 0]
+}
+
+const CHECKED: &str = "the sheet and the store of this work are accepted";
+
+/// The engine: the static library.
+#[derive(Default)]
+pub struct Engine {
+    scratch: Box<library::Scratch>,
+}
+
+impl Program for Engine {
+    fn run(&mut self, work: Work, input: &Input, runs: u32) -> (Duration, Outcome) {
+        let scratch = &mut *self.scratch;
+        let (sheet, question) = (&input.sheet[..], &input.question[..]);
+        let mut store = input.store.clone();
+        let lent = &mut store[..];
+        let refused = |(number, place): library::Stop| stopped(number.into(), place as i64);
+        let (time, fields) = match work {
+            Work::Question => {
+                let mut sheet = scratch.check(sheet).expect(CHECKED);
+                timed(runs, || {
+                    let mut store = sheet.lend(lent, input.kept).expect(CHECKED);
+                    store.ask(question, BUDGET)
+                })
+            }
+            Work::Kept => {
+                let mut sheet = scratch.check(sheet).expect(CHECKED);
+                let mut store = sheet.lend(lent, input.kept).expect(CHECKED);
+                timed(runs, || store.ask(question, BUDGET))
+            }
+            Work::Ask => timed(runs, || {
+                library::ask(sheet, question, lent, input.kept, BUDGET)
+            }),
+            Work::AskIn => timed(runs, || {
+                scratch.ask(sheet, question, lent, input.kept, BUDGET)
+            }),
+            Work::CheckSheet => timed(runs, || match scratch.check(sheet) {
+                Ok(sheet) => {
+                    let (attributes, nodes) = sheet.declared();
+                    accepted(attributes as i64, nodes as i64)
+                }
+                Err(stop) => refused(stop),
+            }),
+            Work::CheckStore => {
+                let mut sheet = scratch.check(sheet).expect(CHECKED);
+                timed(runs, || match sheet.lend(lent, input.kept) {
+                    Ok(_) => stopped(0, 0),
+                    Err(stop) => refused(stop),
+                })
+            }
+        };
+        (time, Outcome { fields, store })
+    }
+}
+
+/// The same algorithm in Rust.
+#[derive(Default)]
+pub struct Twin {
+    scratch: Box<twin::Scratch>,
+}
+
+impl Program for Twin {
+    fn run(&mut self, work: Work, input: &Input, runs: u32) -> (Duration, Outcome) {
+        use twin::{Sheet, Store};
+        let scratch = &mut *self.scratch;
+        let (sheet, question) = (&input.sheet[..], &input.question[..]);
+        let mut store = input.store.clone();
+        let lent = &mut store[..];
+        let refused = |stop: twin::Stop| stopped(stop.reason as i64, stop.place as i64);
+        let (time, fields) = match work {
+            Work::Question => {
+                let sheet = Sheet::check(sheet, &mut scratch.index).expect(CHECKED);
+                timed(runs, || {
+                    let store =
+                        Store::check(&sheet, black_box(lent), input.kept, &mut scratch.links);
+                    let mut store = store.expect(CHECKED);
+                    let question = black_box(question);
+                    twin::ask_checked(&sheet, &mut store, question, BUDGET, &mut scratch.stack)
+                        .fields()
+                })
+            }
+            Work::Kept => {
+                let sheet = Sheet::check(sheet, &mut scratch.index).expect(CHECKED);
+                let store = Store::check(&sheet, lent, input.kept, &mut scratch.links);
+                let mut store = store.expect(CHECKED);
+                timed(runs, || {
+                    let question = black_box(question);
+                    twin::ask_checked(&sheet, &mut store, question, BUDGET, &mut scratch.stack)
+                        .fields()
+                })
+            }
+            Work::Ask => timed(runs, || {
+                twin::ask(black_box(sheet), question, lent, input.kept, BUDGET).fields()
+            }),
+            Work::AskIn => timed(runs, || {
+                let sheet = black_box(sheet);
+                twin::ask_in(sheet, question, lent, input.kept, BUDGET, scratch).fields()
+            }),
+            Work::CheckSheet => timed(runs, || {
+                match Sheet::check(black_box(sheet), &mut scratch.index) {
+                    Ok(sheet) => accepted(sheet.attributes as i64, sheet.nodes as i64),
+                    Err(stop) => refused(stop),
+                }
+            }),
+            Work::CheckStore => {
+                let sheet = Sheet::check(sheet, &mut scratch.index).expect(CHECKED);
+                timed(runs, || {
+                    match Store::check(&sheet, black_box(lent), input.kept, &mut scratch.links) {
+                        Ok(_) => stopped(0, 0),
+                        Err(stop) => refused(stop),
+                    }
+                })
+            }
+        };
+        (time, Outcome { fields, store })
+    }
+}
+
+/// The second evaluator.
+pub struct Oracle;
+
+impl Program for Oracle {
+    fn run(&mut self, work: Work, input: &Input, runs: u32) -> (Duration, Outcome) {
+        use oracle::ask::{ask, read_question};
+        use oracle::caching::evaluate;
+        use oracle::sheet::Sheet;
+        use oracle::stop::Stop;
+        use oracle::store::Store;
+        let (sheet, question) = (&input.sheet[..], &input.question[..]);
+        let mut store = input.store.clone();
+        let lent = &mut store[..];
+        let refused = |stop: Stop| stopped(stop.reason as i64, stop.place as i64);
+        let put = |sheet: &Sheet, store: &mut Store| {
+            let question = read_question(black_box(question), sheet).expect(CHECKED);
+            let (ending, steps) = evaluate(sheet, store, &question, BUDGET);
+            let [number, typ, value] = match ending {
+                Ok(value) => {
+                    let base = value.base().expect("a question is of base type");
+                    [0, base.code().into(), value.number()]
+                }
+                Err(reason) => [reason as i64, 0, 0],
+            };
+            [number, 0, typ, value, steps as i64, store.kept() as i64]
+        };
+        let (time, fields) = match work {
+            Work::Question => {
+                let sheet = Sheet::read(sheet).expect(CHECKED);
+                timed(runs, || {
+                    let mut store = Store::open(lent, input.kept, &sheet).expect(CHECKED);
+                    put(&sheet, &mut store)
+                })
+            }
+            Work::Kept => {
+                let sheet = Sheet::read(sheet).expect(CHECKED);
+                let mut store = Store::open(lent, input.kept, &sheet).expect(CHECKED);
+                timed(runs, || put(&sheet, &mut store))
+            }
+            Work::Ask | Work::AskIn => timed(runs, || {
+                let given = ask(black_box(sheet), lent, input.kept, question, BUDGET);
+                [
+                    given.number,
+                    given.place,
+                    given.typ,
+                    given.value,
+                    given.steps,
+                    given.kept,
+                ]
+            }),
+            Work::CheckSheet => timed(runs, || match Sheet::read(black_box(sheet)) {
+                Ok(sheet) => accepted(sheet.attributes().len() as i64, sheet.node_count() as i64),
+                Err(stop) => refused(stop),
+            }),
+            Work::CheckStore => {
+                let sheet = Sheet::read(sheet).expect(CHECKED);
+                timed(runs, || {
+                    match Store::open(black_box(lent), input.kept, &sheet) {
+                        Ok(_) => stopped(0, 0),
+                        Err(stop) => refused(stop),
+                    }
+                })
+            }
+        };
+        (time, Outcome { fields, store })
+    }
+}

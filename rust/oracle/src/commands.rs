@@ -1,0 +1,112 @@
+//! What the programs over engines share: files of lists, generated runs, and a list shown step by step.
+
+use std::fs;
+
+use crate::ask::read_question;
+use crate::case::{read_lists, Case, Listed};
+use crate::compare::Counts;
+use crate::demand3::{demand3, PLAIN_LIMIT};
+use crate::engine::Engine;
+use crate::plain;
+use crate::sheet::Sheet;
+use crate::soak::soak;
+
+/// An engine and what it is called in messages.
+pub type Named<'e> = (&'static str, &'e mut dyn Engine);
+
+fn lists(file: &str) -> Result<Vec<Listed>, String> {
+    let text = fs::read_to_string(file).map_err(|error| format!("{file}: {error}"))?;
+    let lists = read_lists(&text).map_err(|error| format!("{file}: {error}"))?;
+    match lists.len() {
+        0 => Err(format!("{file}: no lists")),
+        _ => Ok(lists),
+    }
+}
+
+/// Answers every list of a file and compares with what the file says.
+pub fn vectors(engines: &mut [Named], file: &str) -> Result<(), String> {
+    let mut different = 0;
+    let lists = lists(file)?;
+    for (name, engine) in engines {
+        let mut counts = Counts::default();
+        for listed in &lists {
+            let answered = listed.case.clone().answered(*engine);
+            for answer in &answered.answers {
+                counts.answer(answer);
+            }
+            if answered != *listed {
+                different += 1;
+                println!("the file says\n{listed}{name} says\n{answered}");
+            }
+        }
+        print!("{counts}");
+        println!("{} lists by {name}", lists.len());
+    }
+    match different {
+        0 => Ok(()),
+        _ => Err(format!("{different} lists differ")),
+    }
+}
+
+/// Puts generated lists to a check. Every number from 0 to 16 must be met.
+pub fn run(
+    cases: u64,
+    seed: u64,
+    check: impl FnMut(&Case) -> Result<Counts, String>,
+) -> Result<(), String> {
+    let counts = soak(cases, seed, check).map_err(|failure| {
+        format!(
+            "{}{}\nto see it again, put the lines from `sheet` to `left` into a file and `replay` that",
+            failure.list, failure.detail
+        )
+    })?;
+    print!("{counts}");
+    println!("{cases} lists of seed {seed}");
+    match counts.unmet()[..] {
+        [] => Ok(()),
+        ref unmet => Err(format!("numbers never met: {unmet:?}")),
+    }
+}
+
+/// Shows each list of a file with the engines' answers and plain Saiga's endings, and tries demand 3 on it.
+pub fn replay(engines: &mut [Named], file: &str) -> Result<(), String> {
+    let mut bad = 0;
+    for listed in lists(file)? {
+        let case = &listed.case;
+        let sheet = Sheet::read(&case.sheet).ok();
+        let answered: Vec<Listed> = engines
+            .iter_mut()
+            .map(|(_, engine)| case.clone().answered(*engine))
+            .collect();
+        for (place, ask) in case.asks.iter().enumerate() {
+            let budget = ask.budget;
+            println!(
+                "question {place}, budget {budget}: the file says {}",
+                listed.answers[place]
+            );
+            for ((name, _), answered) in engines.iter().zip(&answered) {
+                println!("  {name}: {}", answered.answers[place]);
+            }
+            if let Some(sheet) = &sheet {
+                if let Ok(question) = read_question(&ask.question, sheet) {
+                    let ending = plain::run(sheet, &question, PLAIN_LIMIT);
+                    println!("  plain Saiga: {ending:?}");
+                }
+            }
+        }
+        for ((name, engine), answered) in engines.iter_mut().zip(&answered) {
+            if *answered != listed {
+                bad += 1;
+                println!("different; {name} says\n{answered}");
+            }
+            if let Err(violation) = demand3(*engine, case) {
+                bad += 1;
+                println!("{name}: {violation}");
+            }
+        }
+    }
+    match bad {
+        0 => Ok(()),
+        _ => Err(format!("{bad} failings")),
+    }
+}

@@ -1,0 +1,207 @@
+//! The stops of document 01, with words for each.
+
+use std::error::Error;
+use std::fmt;
+
+/// Why no value is given. The discriminants are document 01's numbers.
+#[derive(Clone, Copy, Debug, PartialEq, Eq, PartialOrd, Ord, Hash)]
+pub enum Stop {
+    /// The sheet has over 65,536 bytes.
+    SheetLength = 1,
+    /// An unknown, misplaced or cut command, no end command, or bytes after it.
+    Command = 2,
+    /// A 33rd attribute or a 1,025th node.
+    TooMany = 3,
+    /// A command's operand is outside its values or undeclared.
+    Operand = 4,
+    /// A second figure for a pair, or a second rule for a kind and attribute.
+    SecondDefinition = 5,
+    /// A rule's length or expression is not of the form.
+    RuleForm = 6,
+    /// A rule is not of its attribute's type.
+    RuleType = 7,
+    /// A declared pair of node and attribute has neither figure nor rule.
+    NoDefinition = 8,
+    /// The store's length is no capacity, or more is kept than it has room for.
+    StoreShape = 9,
+    /// A kept entry is none of this sheet's, or repeats an occurrence.
+    StoreEntry = 10,
+    /// The budget is above 1,000,000.
+    Budget = 11,
+    /// The question is not of its form.
+    QuestionForm = 12,
+    /// The question is not of base type.
+    QuestionType = 13,
+    /// An attribute of null was due.
+    Null = 14,
+    /// A counted step was due with the whole budget used.
+    Spent = 15,
+    /// An attribute was due inside 64 open ones.
+    Depth = 16,
+}
+
+/// Who causes a stop.
+#[derive(Clone, Copy, Debug, PartialEq, Eq, PartialOrd, Ord, Hash)]
+pub enum Origin {
+    /// Who wrote the sheet: stops 1 to 8.
+    Author,
+    /// The program that lends the store: stops 9 and 10.
+    Lender,
+    /// Who puts the question: stops 11 to 13.
+    Asker,
+    /// The run itself: stops 14 to 16.
+    Run,
+}
+
+impl Stop {
+    /// The stops in the order of their numbers.
+    pub const ALL: [Stop; 16] = [
+        Stop::SheetLength,
+        Stop::Command,
+        Stop::TooMany,
+        Stop::Operand,
+        Stop::SecondDefinition,
+        Stop::RuleForm,
+        Stop::RuleType,
+        Stop::NoDefinition,
+        Stop::StoreShape,
+        Stop::StoreEntry,
+        Stop::Budget,
+        Stop::QuestionForm,
+        Stop::QuestionType,
+        Stop::Null,
+        Stop::Spent,
+        Stop::Depth,
+    ];
+
+    /// The stop with a number from 1 to 16.
+    pub fn from_number(number: u32) -> Option<Stop> {
+        let place = usize::try_from(number).ok()?.checked_sub(1)?;
+        Stop::ALL.get(place).copied()
+    }
+
+    /// Document 01's number, 1 to 16.
+    pub fn number(self) -> u32 {
+        self as u32
+    }
+
+    /// Who causes it.
+    pub fn origin(self) -> Origin {
+        match self.number() {
+            1..=8 => Origin::Author,
+            9 | 10 => Origin::Lender,
+            11..=13 => Origin::Asker,
+            _ => Origin::Run,
+        }
+    }
+}
+
+impl fmt::Display for Stop {
+    fn fmt(&self, f: &mut fmt::Formatter) -> fmt::Result {
+        f.write_str(match self {
+            Stop::SheetLength => "the sheet is longer than 65,536 bytes",
+            Stop::Command => {
+                "the sheet has an unknown, misplaced or cut command, no end command, or bytes after it"
+            }
+            Stop::TooMany => "the sheet declares a 33rd attribute or a 1,025th node",
+            Stop::Operand => "a command's operand is outside its values or undeclared",
+            Stop::SecondDefinition => {
+                "a second figure for one node and attribute, or a second rule for one kind and attribute"
+            }
+            Stop::RuleForm => "a rule is not a well-formed expression of 1 to 256 bytes",
+            Stop::RuleType => "a rule is not of its attribute's type",
+            Stop::NoDefinition => "an attribute of a node has neither a figure nor a rule",
+            Stop::StoreShape => {
+                "the store's length is not that of 0 to 1,024 entries, or more is kept than it has room for"
+            }
+            Stop::StoreEntry => "a kept entry is none of this sheet's, or repeats an earlier one",
+            Stop::Budget => "the budget is above 1,000,000 steps",
+            Stop::QuestionForm => "the question is not a well-formed expression of 1 to 256 bytes",
+            Stop::QuestionType => "the question is not of a base type",
+            Stop::Null => "an attribute of null was due",
+            Stop::Spent => "the budget is spent",
+            Stop::Depth => "an attribute was due inside 64 open ones",
+        })
+    }
+}
+
+impl fmt::Display for Origin {
+    fn fmt(&self, f: &mut fmt::Formatter) -> fmt::Result {
+        f.write_str(match self {
+            Origin::Author => "the sheet's author",
+            Origin::Lender => "the program that lends the store",
+            Origin::Asker => "the person who puts the question",
+            Origin::Run => "the run",
+        })
+    }
+}
+
+/// A stop with its place.
+///
+/// ```
+/// use sofretu::{Origin, Refusal, Sheet, Stop};
+///
+/// let refusal = Sheet::check(&[0x41, 2, 9, 0x5A]).unwrap_err();
+/// assert_eq!(refusal, Refusal { stop: Stop::Operand, place: 0 });
+/// assert_eq!(refusal.stop.origin(), Origin::Author);
+/// assert_eq!(
+///     refusal.to_string(),
+///     "stop 4 at byte 0: a command's operand is outside its values or undeclared"
+/// );
+/// ```
+#[derive(Clone, Copy, Debug, PartialEq, Eq, Hash)]
+pub struct Refusal {
+    /// The stop.
+    pub stop: Stop,
+    /// For stops 2 to 7 the offset of the faulty command, for 8 node × 32 + attribute, for 10 the entry's number; else 0.
+    pub place: u64,
+}
+
+impl fmt::Display for Refusal {
+    fn fmt(&self, f: &mut fmt::Formatter) -> fmt::Result {
+        let Refusal { stop, place } = self;
+        write!(f, "stop {}", stop.number())?;
+        match stop.number() {
+            2..=7 => write!(f, " at byte {place}")?,
+            8 => write!(f, " at node {}, attribute {}", place / 32, place % 32)?,
+            10 => write!(f, " at entry {place}")?,
+            _ => {}
+        }
+        write!(f, ": {stop}")
+    }
+}
+
+impl Error for Refusal {}
+
+#[cfg(test)]
+mod tests {
+    use super::*;
+
+    #[test]
+    fn stops_are_in_the_order_of_their_numbers() {
+        for (place, stop) in Stop::ALL.iter().enumerate() {
+            assert_eq!(stop.number() as usize, place + 1);
+            assert_eq!(Stop::from_number(stop.number()), Some(*stop));
+        }
+        for number in [0, 17, u32::MAX] {
+            assert_eq!(Stop::from_number(number), None);
+        }
+    }
+
+    #[test]
+    fn every_stop_has_words_of_its_own() {
+        let mut words: Vec<String> = Stop::ALL.iter().map(Stop::to_string).collect();
+        words.sort();
+        words.dedup();
+        assert_eq!(words.len(), 16);
+    }
+
+    #[test]
+    fn a_refusal_says_where() {
+        let of = |stop, place| Refusal { stop, place }.to_string();
+        assert!(of(Stop::Command, 7).starts_with("stop 2 at byte 7: "));
+        assert!(of(Stop::NoDefinition, 65).starts_with("stop 8 at node 2, attribute 1: "));
+        assert!(of(Stop::StoreEntry, 3).starts_with("stop 10 at entry 3: "));
+        assert_eq!(of(Stop::Spent, 0), "stop 15: the budget is spent");
+    }
+}

@@ -1,0 +1,128 @@
+/* How much stack each call takes. Each is run on a thread of 512 KB whose stack was filled with a pattern, on the arguments that lead it
+ * deepest. Prints the call's name and the bytes of the stack that were written over. */
+#define _POSIX_C_SOURCE 200809L
+#include <pthread.h>
+#include <stdint.h>
+#include <stdio.h>
+#include <stdlib.h>
+#include <string.h>
+
+#include "sofretu.h"
+
+enum { STACK = 512 * 1024, PATTERN = 0xA5, LONGEST = 256 };
+
+/* An attribute that is defined as itself: asked for, it opens 64 forms. */
+static const uint8_t circle[] = {0x41, 0, 0, 0x4E, 0, 0x52, 0, 0, 4, 0, 0x22, 0, 0x30, 0x10, 0x5A};
+
+/* The same with a rule of 256 heads, each of which wants another expression. */
+static uint8_t deep[10 + LONGEST + 1] = {0x41, 0, 0, 0x4E, 0, 0x52, 0, 0, 0, 1};
+
+/* Heads that each want an expression, and what asks for the attribute. */
+static uint8_t ifs[LONGEST];
+static uint8_t applications[LONGEST];
+static uint8_t attributes[LONGEST];
+static const uint8_t around[] = {0x22, 0, 0x13, 0, 0, 0x10};
+
+static const struct {
+    const uint8_t *bytes;
+    uint64_t len;
+} questions[] = {
+    {ifs, sizeof ifs}, {applications, sizeof applications}, {attributes, sizeof attributes}, {around, sizeof around}};
+
+static uint8_t store[SOFRETU_MOST_ENTRIES * SOFRETU_ENTRY];
+static uint32_t sheet_index[SOFRETU_INDEX];
+static uint32_t links[SOFRETU_LINKS];
+static uint64_t frames[SOFRETU_FRAMES];
+static uint32_t forms[SOFRETU_FORMS];
+static uint64_t found[3];
+static uint64_t place;
+static int64_t answer[SOFRETU_FIELDS];
+
+#define FOR_EACH_QUESTION for (size_t q = 0; q < sizeof questions / sizeof questions[0]; q++)
+
+static void *ask(void *unused) {
+    sofretu_ask(deep, sizeof deep, around, sizeof around, store, sizeof store, 0, 100, answer);
+    FOR_EACH_QUESTION {
+        sofretu_ask(circle, sizeof circle, questions[q].bytes, questions[q].len, store, sizeof store, 0, 100, answer);
+    }
+    return unused;
+}
+
+static void *ask_in(void *unused) {
+    sofretu_ask_in(deep, sizeof deep, around, sizeof around, store, sizeof store, 0, 100, sheet_index, links, frames, forms, answer);
+    FOR_EACH_QUESTION {
+        sofretu_ask_in(circle, sizeof circle, questions[q].bytes, questions[q].len, store, sizeof store, 0, 100, sheet_index,
+                       links, frames, forms, answer);
+    }
+    return unused;
+}
+
+static void *check(void *unused) {
+    sofretu_check(deep, sizeof deep, around, sizeof around, store, sizeof store, 0, 100, &place);
+    FOR_EACH_QUESTION {
+        sofretu_check(circle, sizeof circle, questions[q].bytes, questions[q].len, store, sizeof store, 0, 100, &place);
+    }
+    return unused;
+}
+
+/* The sheet that is accepted comes last, for the two calls below. */
+static void *check_sheet(void *unused) {
+    sofretu_check_sheet(deep, sizeof deep, sheet_index, found);
+    sofretu_check_sheet(circle, sizeof circle, sheet_index, found);
+    return unused;
+}
+
+static void *check_store(void *unused) {
+    sofretu_check_store(circle, sizeof circle, found[1], found[2], store, sizeof store, 0, links, &place);
+    return unused;
+}
+
+static void *ask_checked(void *unused) {
+    FOR_EACH_QUESTION {
+        sofretu_ask_checked(circle, sizeof circle, found[1], found[2], sheet_index, questions[q].bytes, questions[q].len, store,
+                            sizeof store, 0, 100, links, frames, forms, answer);
+    }
+    return unused;
+}
+
+static const struct {
+    const char *name;
+    void *(*call)(void *);
+} calls[] = {{"sofretu_ask", ask},           {"sofretu_ask_in", ask_in},           {"sofretu_check", check},
+             {"sofretu_check_sheet", check_sheet}, {"sofretu_check_store", check_store}, {"sofretu_ask_checked", ask_checked}};
+
+static void must(int error) {
+    if (error != 0) {
+        fprintf(stderr, "%s\n", strerror(error));
+        exit(1);
+    }
+}
+
+int main(void) {
+    memset(deep + 10, 0x20, LONGEST);
+    deep[10 + LONGEST] = 0x5A;
+    memset(ifs, 0x20, sizeof ifs);
+    memset(applications, 0x21, sizeof applications);
+    for (size_t at = 0; at < sizeof attributes; at += 2) {
+        attributes[at] = 0x22;
+    }
+    void *stack;
+    must(posix_memalign(&stack, 4096, STACK));
+    for (size_t i = 0; i < sizeof calls / sizeof calls[0]; i++) {
+        memset(stack, PATTERN, STACK);
+        pthread_attr_t attr;
+        pthread_t thread;
+        must(pthread_attr_init(&attr));
+        must(pthread_attr_setstack(&attr, stack, STACK));
+        must(pthread_create(&thread, &attr, calls[i].call, NULL));
+        must(pthread_join(thread, NULL));
+        must(pthread_attr_destroy(&attr));
+        size_t untouched = 0;
+        while (untouched < STACK && ((uint8_t *)stack)[untouched] == PATTERN) {
+            untouched++;
+        }
+        printf("%s %zu\n", calls[i].name, (size_t)STACK - untouched);
+    }
+    free(stack);
+    return 0;
+}

@@ -1,0 +1,203 @@
+//! The calls are declared three times, for Rattle, Rust and C. Nothing but this test holds the three to each other.
+
+use std::collections::BTreeMap;
+use std::fs;
+use std::path::Path;
+
+/// A call's parameters, one for each machine word that is passed, and its result.
+type Calls = BTreeMap<String, (Vec<String>, String)>;
+
+fn text(file: &str) -> String {
+    let path = Path::new(env!("CARGO_MANIFEST_DIR"))
+        .join("../..")
+        .join(file);
+    let text = fs::read_to_string(&path).unwrap_or_else(|error| panic!("{file}: {error}"));
+    let mut code = String::new();
+    let mut rest = text.as_str();
+    while let Some((before, comment)) = rest.split_once("/*") {
+        code.push_str(before);
+        rest = comment.split_once("*/").expect("the comment's end").1;
+    }
+    code.push_str(rest);
+    code.lines()
+        .map(|line| line.split("//").next().unwrap_or_default())
+        .collect::<Vec<&str>>()
+        .join("\n")
+}
+
+/// What stands between `before` and the first `after` that follows it, wherever that is in the text.
+fn between<'t>(text: &'t str, before: &str, after: &str) -> Vec<&'t str> {
+    text.split(before)
+        .skip(1)
+        .map(|rest| rest.split(after).next().expect("split gives a first part"))
+        .collect()
+}
+
+/// The parts between commas that stand in no brackets.
+fn parts(list: &str) -> Vec<String> {
+    list.split(',')
+        .map(|part| part.split_whitespace().collect::<Vec<_>>().join(" "))
+        .filter(|part| !part.is_empty())
+        .collect()
+}
+
+fn number(text: &str, constants: &BTreeMap<String, String>) -> String {
+    let number = constants.get(text).map_or(text, String::as_str);
+    number.replace('_', "")
+}
+
+/// An array behind a pointer.
+fn array(pointer: &str, element: &str, length: &str) -> String {
+    format!("{pointer} [{element}; {length}]")
+}
+
+fn rattle() -> Calls {
+    // A lifetime is nothing that is passed.
+    let text = text("crates/sofretu/src/lib.rt")
+        .replace("<'a>", "")
+        .replace("&'a ", "&");
+    between(&text, "pub extern \"C\" fn ", "{")
+        .into_iter()
+        .map(|signature| {
+            let (name, rest) = signature.split_once('(').expect("parameters");
+            let (list, rest) = rest.split_once(')').expect("their end");
+            let parameters = parts(list)
+                .iter()
+                .flat_map(|part| {
+                    let (_, typ) = part.split_once(": ").expect("a type");
+                    let (pointer, inner) = match typ.strip_prefix('&') {
+                        None => return vec![word(typ)],
+                        Some(inner) => match inner.strip_prefix("mut ") {
+                            Some(inner) => ("*mut", inner),
+                            None => ("*const", inner),
+                        },
+                    };
+                    match inner.strip_prefix('[').and_then(|i| i.strip_suffix(']')) {
+                        None => vec![format!("{pointer} {inner}")],
+                        Some(inner) => match inner.split_once("; ") {
+                            Some((element, length)) => {
+                                vec![array(pointer, element, &length.replace('_', ""))]
+                            }
+                            None => vec![format!("{pointer} {inner}"), "u64".into()],
+                        },
+                    }
+                })
+                .collect();
+            (name.into(), (parameters, result(rest)))
+        })
+        .collect()
+}
+
+fn rust() -> Calls {
+    let text = text("rust/sofretu/src/library.rs");
+    let constants: BTreeMap<String, String> = between(&text, "const ", ";")
+        .into_iter()
+        .filter_map(|declared| {
+            let (name, value) = declared.split_once(": usize = ")?;
+            Some((name.into(), value.into()))
+        })
+        .collect();
+    let block = text.split("extern \"C\" {").nth(1).expect("the block");
+    let block = block.split("}").next().expect("its end");
+    between(block, "fn ", ";\n")
+        .into_iter()
+        .map(|signature| {
+            let (name, rest) = signature.split_once('(').expect("parameters");
+            let (list, rest) = rest.rsplit_once(')').expect("their end");
+            let parameters = parts(list)
+                .iter()
+                .map(|part| {
+                    let (_, typ) = part.split_once(": ").expect("a type");
+                    match typ.split_once(" [") {
+                        None => word(typ),
+                        Some((pointer, inner)) => {
+                            let inner = inner.strip_suffix(']').expect("an array");
+                            let (element, length) = inner.split_once("; ").expect("its length");
+                            array(pointer, element, &number(length, &constants))
+                        }
+                    }
+                })
+                .collect();
+            (name.into(), (parameters, result(rest)))
+        })
+        .collect()
+}
+
+fn c() -> Calls {
+    let text = text("include/sofretu.h");
+    let constants: BTreeMap<String, String> = between(&text, "#define ", "\n")
+        .into_iter()
+        .filter_map(|line| line.split_once(' '))
+        .map(|(name, value)| (name.into(), value.into()))
+        .collect();
+    let typed = |typ: &str| {
+        typ.replace("uint", "u")
+            .replace("int", "i")
+            .replace("_t", "")
+    };
+    text.split(';')
+        .filter_map(|declaration| {
+            let (front, rest) = declaration.split_once('(')?;
+            let list = rest.strip_suffix(')')?;
+            let mut front = front.split_whitespace().rev();
+            let (name, result) = (front.next()?, front.next()?);
+            let parameters = parts(list)
+                .iter()
+                .map(|part| {
+                    let (pointer, part) = match part.strip_prefix("const ") {
+                        Some(part) => ("*const", part),
+                        None => ("*mut", part.as_str()),
+                    };
+                    let (typ, name) = part.split_once(' ').expect("a type and a name");
+                    let typ = typed(typ);
+                    match name.split_once('[') {
+                        Some((_, length)) => {
+                            let length = length.strip_suffix(']').expect("an array");
+                            array(pointer, &typ, &number(length, &constants))
+                        }
+                        None if name.starts_with('*') => format!("{pointer} {typ}"),
+                        None => typ,
+                    }
+                })
+                .collect();
+            let result = if result == "void" {
+                String::new()
+            } else {
+                typed(result)
+            };
+            Some((name.into(), (parameters, result)))
+        })
+        .collect()
+}
+
+/// A `usize` is passed as a `u64`.
+fn word(typ: &str) -> String {
+    typ.replace("usize", "u64")
+}
+
+/// The type after an arrow, or nothing.
+fn result(rest: &str) -> String {
+    let mut words = rest.split_whitespace();
+    match words.next() {
+        Some("->") => words.next().unwrap_or_default().into(),
+        _ => String::new(),
+    }
+}
+
+#[test]
+fn rust_and_c_declare_the_same_calls() {
+    let rust = rust();
+    assert_eq!(rust.len(), 6);
+    assert_eq!(rust, c());
+    let (parameters, result) = &rust["sofretu_check_sheet"];
+    assert_eq!(
+        *parameters,
+        ["*const u8", "u64", "*mut [u32; 33280]", "*mut [u64; 3]"]
+    );
+    assert_eq!(result, "u32");
+}
+
+#[test]
+fn what_rattle_exports_is_declared_as_it_is() {
+    assert_eq!(rattle(), rust());
+}

@@ -1,0 +1,130 @@
+//! The safe interface at work: what a session keeps, what is refused where, and that the three ways of asking agree.
+
+use sofretu::{
+    ask, check, Answer, Origin, Refusal, Scratch, Session, Sheet, Stop, Store, Value, MOST_STEPS,
+};
+
+/// One Int attribute with an Int parameter, on one node: the parameter and one more.
+const ONE_MORE: [u8; 21] = [
+    0x41, 2, 2, // the attribute
+    0x4E, 0, // the node
+    0x52, 0, 0, 10, 0, 0x21, 0x21, 0x14, 4, 0x31, 0x12, 1, 0, 0, 0, // the rule
+    0x5A,
+];
+
+/// The attribute of node 0 with a parameter.
+fn after(parameter: i32) -> Vec<u8> {
+    let mut question = vec![0x22, 0, 0x13, 0, 0, 0x12];
+    question.extend(parameter.to_le_bytes());
+    question
+}
+
+#[test]
+fn a_session_keeps_what_it_works_out() {
+    let sheet = Sheet::check(&ONE_MORE).expect("an accepted sheet");
+    assert_eq!((sheet.attributes(), sheet.nodes()), (1, 1));
+    let mut store = Store::with_capacity(2);
+    let mut session = Session::open(&sheet, &mut store).expect("an empty store");
+    for (parameter, steps, kept) in [(5, 3, 1), (5, 1, 1), (i32::MAX, 3, 2), (9, 3, 2), (9, 3, 2)] {
+        let value = Value::Int(parameter.saturating_add(1));
+        assert_eq!(
+            session.ask(&after(parameter), MOST_STEPS),
+            Answer::Value { value, steps, kept }
+        );
+        assert_eq!(session.store().kept(), kept);
+    }
+    let again = Session::open(&sheet, &mut store).map(|session| session.store().clone());
+    assert_eq!(again.expect("what a session left passes"), store);
+}
+
+#[test]
+fn a_refused_question_leaves_the_session_as_it_was() {
+    let sheet = Sheet::check(&ONE_MORE).expect("an accepted sheet");
+    let mut store = Store::with_capacity(8);
+    let mut session = Session::open(&sheet, &mut store).expect("an empty store");
+    session.ask(&after(1), MOST_STEPS);
+    let before = session.store().clone();
+    for (question, budget, stop) in [
+        (after(2), MOST_STEPS + 1, Stop::Budget),
+        (vec![], 9, Stop::QuestionForm),
+        (vec![0x14, 0], 9, Stop::QuestionType),
+    ] {
+        let answer = session.ask(&question, budget);
+        assert_eq!(answer.value(), Err(Refusal { stop, place: 0 }));
+        assert_eq!((answer.steps(), answer.kept()), (0, 1));
+        assert_eq!(stop.origin(), Origin::Asker);
+        assert_eq!(*session.store(), before);
+    }
+    assert_eq!(session.ask(&after(1), 1).steps(), 1);
+}
+
+#[test]
+fn stores_that_do_not_fit_the_sheet_open_no_session() {
+    let sheet = Sheet::check(&ONE_MORE).expect("an accepted sheet");
+    let refusal = |mut store: Store| {
+        let refusal = Session::open(&sheet, &mut store).expect_err("a refused store");
+        assert_eq!(refusal.stop.origin(), Origin::Lender);
+        (refusal.stop, refusal.place)
+    };
+    let shape = (Stop::StoreShape, 0);
+    assert_eq!(refusal(Store::with_capacity(1_025)), shape);
+    assert_eq!(refusal(Store::from_parts(vec![0; 13], 0)), shape);
+    assert_eq!(refusal(Store::from_parts(vec![0; 12], 2)), shape);
+    assert_eq!(refusal(Store::from_parts(vec![0; 12], u64::MAX)), shape);
+    let twice = Store::from_parts(vec![0; 24], 2);
+    assert_eq!(refusal(twice), (Stop::StoreEntry, 1));
+}
+
+#[test]
+fn one_sheet_serves_many_sessions_on_many_threads() {
+    let sheet = Sheet::check(&ONE_MORE).expect("an accepted sheet");
+    std::thread::scope(|scope| {
+        for parameter in 0..4 {
+            let sheet = &sheet;
+            scope.spawn(move || {
+                let mut store = Store::with_capacity(4);
+                let mut session = Session::open(sheet, &mut store).expect("an empty store");
+                let value = session.ask(&after(parameter), 9).value();
+                assert_eq!(value, Ok(Value::Int(parameter + 1)));
+            });
+        }
+    });
+}
+
+#[test]
+fn the_ways_of_asking_agree() {
+    let mut scratch = Scratch::new();
+    let mut stores = [[7; 24]; 2];
+    let mut kept = 0;
+    for question in [after(3), after(4), vec![0x30], after(3), after(5)] {
+        let first = ask(&ONE_MORE, &mut stores[0], kept, &question, 9);
+        let second = scratch.ask(&ONE_MORE, &mut stores[1], kept, &question, 9);
+        assert_eq!(first, second);
+        assert_eq!(stores[0], stores[1]);
+        kept = first.kept();
+    }
+    assert_eq!(kept, 2);
+}
+
+#[test]
+fn a_call_refused_before_its_run_is_refused_by_the_check() {
+    let cut = &ONE_MORE[..20];
+    let refusal = Refusal {
+        stop: Stop::Command,
+        place: 20,
+    };
+    assert_eq!(check(cut, &[], 0, &after(0), 9), Err(refusal));
+    assert_eq!(ask(cut, &mut [], 0, &after(0), 9).value(), Err(refusal));
+    assert_eq!(check(&ONE_MORE, &[], 0, &after(0), 9), Ok(()));
+    // What only the run can find is no matter for the check.
+    assert_eq!(check(&ONE_MORE, &[], 0, &after(0), 2), Ok(()));
+    let spent = ask(&ONE_MORE, &mut [], 0, &after(0), 2);
+    assert_eq!(spent.to_string(), "15 0 0 0 2 0");
+}
+
+#[test]
+fn a_number_kept_above_every_capacity_comes_back_as_it_was_lent() {
+    let answer = ask(&ONE_MORE, &mut [], u64::MAX, &after(0), 9);
+    assert_eq!(answer.kept(), u64::MAX);
+    assert_eq!(answer.fields(), [9, 0, 0, 0, 0, -1]);
+}

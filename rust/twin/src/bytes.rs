@@ -1,0 +1,13 @@
+//! Numbers in bytes, little-endian.
+
+/// The number in the two bytes at an offset.
+pub fn two(bytes: &[u8], at: usize) -> u16 {
+    let bytes = bytes[at..at + 2].try_into().expect("two bytes");
+    u16::from_le_bytes(bytes)
+}
+
+/// The number in the four bytes at an offset.
+pub fn four(bytes: &[u8], at: usize) -> u32 {
+    let bytes = bytes[at..at + 4].try_into().expect("four bytes");
+    u32::from_le_bytes(bytes)
+}

@@ -1,0 +1,119 @@
+//! The engine's algorithm in safe Rust, for the benchmarks to measure the engine against: the sheet's check with its index
+//! in one pass, the store's check with its buckets, the question's check, and the frame machine. Like the engine it works
+//! in lent memory and on the stack alone, and so needs no allocator.
+//!
+//! "Document 01" is the paper "Settings sheets evaluated by Saiga".
+#![forbid(unsafe_code)]
+#![no_std]
+
+mod bytes;
+mod expressions;
+mod machine;
+mod sheets;
+mod stops;
+mod stores;
+mod values;
+
+pub use machine::{Form, Frame, Stack};
+pub use sheets::{Index, Sheet};
+pub use stops::{Answer, Reason, Stop};
+pub use stores::{Links, Store};
+pub use values::{Base, Function, Holding, Value};
+
+/// The greatest budget permitted.
+pub const MOST_STEPS: u64 = 1_000_000;
+
+/// All the memory that a call works in. Nothing is asked of what it holds.
+pub struct Scratch {
+    pub index: Index,
+    pub links: Links,
+    pub stack: Stack,
+}
+
+impl Default for Scratch {
+    fn default() -> Scratch {
+        Scratch {
+            index: [0; sheets::INDEX_SIZE],
+            links: [0; stores::LINKS_SIZE],
+            stack: Stack::default(),
+        }
+    }
+}
+
+/// A question put to a sheet and a lent store: the answer and, in `store`, the bytes lent back. It takes some 280 KB of
+/// stack.
+pub fn ask(sheet: &[u8], question: &[u8], store: &mut [u8], kept: u64, budget: u64) -> Answer {
+    ask_in(
+        sheet,
+        question,
+        store,
+        kept,
+        budget,
+        &mut Scratch::default(),
+    )
+}
+
+/// As `ask`, in lent scratch.
+pub fn ask_in(
+    sheet: &[u8],
+    question: &[u8],
+    store: &mut [u8],
+    kept: u64,
+    budget: u64,
+    scratch: &mut Scratch,
+) -> Answer {
+    let opened = Sheet::check(sheet, &mut scratch.index).and_then(|sheet| {
+        let store = Store::check(&sheet, store, kept, &mut scratch.links)?;
+        Ok((sheet, store))
+    });
+    match opened {
+        Ok((sheet, mut store)) => {
+            ask_checked(&sheet, &mut store, question, budget, &mut scratch.stack)
+        }
+        Err(stop) => Answer::refusal(stop, kept),
+    }
+}
+
+/// A question put to a checked sheet and a checked store, which stays checked.
+pub fn ask_checked(
+    sheet: &Sheet,
+    store: &mut Store,
+    question: &[u8],
+    budget: u64,
+    stack: &mut Stack,
+) -> Answer {
+    match check_question(sheet, question, budget) {
+        Ok(()) => machine::run(sheet, store, question, budget, stack),
+        Err(stop) => Answer::refusal(stop, store.kept as u64),
+    }
+}
+
+/// The first of stops 1 to 13 that a call's arguments bring.
+pub fn check(
+    sheet: &[u8],
+    question: &[u8],
+    store: &mut [u8],
+    kept: u64,
+    budget: u64,
+    index: &mut Index,
+    links: &mut Links,
+) -> Result<(), Stop> {
+    let sheet = Sheet::check(sheet, index)?;
+    Store::check(&sheet, store, kept, links)?;
+    check_question(&sheet, question, budget)
+}
+
+/// Stops 11 to 13.
+fn check_question(sheet: &Sheet, question: &[u8], budget: u64) -> Result<(), Stop> {
+    if budget > MOST_STEPS {
+        return Err(Stop::of(Reason::Budget));
+    }
+    let typ = sheet
+        .scope(None)
+        .read_whole(question)
+        .ok_or(Stop::of(Reason::QuestionForm))?;
+    if !typ.is_base() {
+        return Err(Stop::of(Reason::QuestionType));
+    }
+    Ok(())
+}

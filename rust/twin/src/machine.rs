@@ -1,0 +1,258 @@
+//! The frame machine (document 01, "The steps", with stops 14 to 16): heads are read until one is a value, and values are
+//! given to frames until one has an expression to step.
+
+use crate::bytes::{four, two};
+use crate::expressions::{width, LONGEST};
+use crate::sheets::{Definition, Sheet};
+use crate::stops::{Answer, Reason, Stop};
+use crate::stores::{Key, Store};
+use crate::values::{Function, Value, NULL};
+
+/// How many forms can be open.
+const MOST_OPEN: usize = 64;
+/// A question and each open form has a frame for each of its bytes at most.
+const MOST_FRAMES: usize = LONGEST * (1 + MOST_OPEN);
+
+/// What waits for a value.
+#[derive(Clone, Copy)]
+pub enum Frame {
+    /// IF, for its condition.
+    Condition,
+    /// IF, for the branch that is taken; the other is passed over after it.
+    Branch,
+    /// Application, for its function.
+    Function,
+    /// Application, for its argument; the function is held.
+    Argument(Value),
+    /// An attribute, for its node.
+    Node { attribute: u8 },
+    /// An attribute, for its parameter.
+    Parameter { attribute: u8, node: u16 },
+    /// The innermost open form, for the value of its rule.
+    Form,
+}
+
+/// An open form: its occurrence, and the offset to go on from in the piece around it.
+#[derive(Clone, Copy)]
+pub struct Form {
+    node: u16,
+    attribute: u8,
+    parameter: Value,
+    back: usize,
+}
+
+/// The memory that a run works in. Nothing is asked of what it holds.
+pub struct Stack {
+    frames: [Frame; MOST_FRAMES],
+    forms: [Form; MOST_OPEN],
+}
+
+impl Default for Stack {
+    fn default() -> Stack {
+        let form = Form {
+            node: 0,
+            attribute: 0,
+            parameter: Value::Unit,
+            back: 0,
+        };
+        Stack {
+            frames: [Frame::Condition; MOST_FRAMES],
+            forms: [form; MOST_OPEN],
+        }
+    }
+}
+
+/// The steps that the budget leaves.
+struct Budget {
+    left: u64,
+}
+
+impl Budget {
+    fn allows(&self) -> Result<(), Reason> {
+        match self.left {
+            0 => Err(Reason::Spent),
+            _ => Ok(()),
+        }
+    }
+
+    /// Counts a step.
+    fn count(&mut self) -> Result<(), Reason> {
+        self.allows()?;
+        self.left -= 1;
+        Ok(())
+    }
+}
+
+/// Runs an accepted question.
+pub fn run(
+    sheet: &Sheet,
+    store: &mut Store,
+    question: &[u8],
+    budget: u64,
+    stack: &mut Stack,
+) -> Answer {
+    let mut counted = Budget { left: budget };
+    let ending = evaluate(sheet, store, question, &mut counted, stack);
+    Answer {
+        ending: ending.map_err(Stop::of),
+        steps: budget - counted.left,
+        kept: store.kept as u64,
+    }
+}
+
+fn evaluate(
+    sheet: &Sheet,
+    store: &mut Store,
+    question: &[u8],
+    budget: &mut Budget,
+    Stack { frames, forms }: &mut Stack,
+) -> Result<Value, Reason> {
+    // The running piece lies in the question while no form is open, and in the sheet inside a form.
+    let mut piece = question;
+    let mut at = 0;
+    let mut height = 0;
+    let mut open = 0;
+    loop {
+        let head = piece[at];
+        let mut value = match head {
+            0x20 => {
+                frames[height] = Frame::Condition;
+                height += 1;
+                at += 1;
+                continue;
+            }
+            0x21 => {
+                frames[height] = Frame::Function;
+                height += 1;
+                at += 1;
+                continue;
+            }
+            0x22 => {
+                let attribute = piece[at + 1];
+                frames[height] = Frame::Node { attribute };
+                height += 1;
+                at += 2;
+                continue;
+            }
+            0x10 => {
+                at += 1;
+                Value::Unit
+            }
+            0x11 => {
+                at += 2;
+                Value::Bool(piece[at - 1] == 1)
+            }
+            0x12 => {
+                at += 5;
+                Value::Int(four(piece, at - 4) as i32)
+            }
+            0x13 => {
+                at += 3;
+                Value::Node(two(piece, at - 2))
+            }
+            0x14 => {
+                at += 2;
+                Value::Function(Function::of(piece[at - 1]))
+            }
+            0x30 => {
+                at += 1;
+                Value::Node(forms[open - 1].node)
+            }
+            _ => {
+                at += 1;
+                forms[open - 1].parameter
+            }
+        };
+        loop {
+            let Some(top) = height.checked_sub(1) else {
+                return Ok(value);
+            };
+            match frames[top] {
+                Frame::Condition => {
+                    budget.count()?;
+                    if value == Value::Bool(true) {
+                        frames[top] = Frame::Branch;
+                    } else {
+                        at += width(piece, at);
+                        height = top;
+                    }
+                    break;
+                }
+                Frame::Branch => {
+                    at += width(piece, at);
+                    height = top;
+                }
+                Frame::Function => {
+                    frames[top] = Frame::Argument(value);
+                    break;
+                }
+                Frame::Argument(function) => {
+                    budget.count()?;
+                    value = function.apply(value);
+                    height = top;
+                }
+                Frame::Node { attribute } => {
+                    let Value::Node(node) = value else {
+                        unreachable!("ill typed")
+                    };
+                    frames[top] = Frame::Parameter { attribute, node };
+                    break;
+                }
+                Frame::Parameter { attribute, node } => {
+                    if node == NULL {
+                        return Err(Reason::Null);
+                    }
+                    budget.allows()?;
+                    if open == MOST_OPEN {
+                        return Err(Reason::Depth);
+                    }
+                    budget.count()?;
+                    let key = Key {
+                        node,
+                        attribute,
+                        parameter: value.word(),
+                    };
+                    let word = match store.find(key) {
+                        Some(kept) => kept,
+                        None => match sheet.definition(node, attribute) {
+                            Definition::Figure(figure) => {
+                                store.append(key, figure);
+                                figure
+                            }
+                            Definition::Rule(start) => {
+                                forms[open] = Form {
+                                    node,
+                                    attribute,
+                                    parameter: value,
+                                    back: at,
+                                };
+                                open += 1;
+                                frames[top] = Frame::Form;
+                                piece = sheet.bytes;
+                                at = start;
+                                break;
+                            }
+                        },
+                    };
+                    value = sheet.result(attribute).value(word);
+                    height = top;
+                }
+                Frame::Form => {
+                    open -= 1;
+                    let form = forms[open];
+                    let key = Key {
+                        node: form.node,
+                        attribute: form.attribute,
+                        parameter: form.parameter.word(),
+                    };
+                    store.write(key, value.word());
+                    if open == 0 {
+                        piece = question;
+                    }
+                    at = form.back;
+                    height = top;
+                }
+            }
+        }
+    }
+}

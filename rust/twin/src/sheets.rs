@@ -1,0 +1,248 @@
+//! The check of a sheet (stops 1 to 8) and the index that it fills; the look-up of a definition.
+
+use crate::bytes::{four, two};
+use crate::expressions::{Scope, Type};
+use crate::stops::{Reason, Stop};
+use crate::values::Base;
+
+const LONGEST_SHEET: usize = 65_536;
+const MOST_ATTRIBUTES: usize = 32;
+const MOST_NODES: usize = 1_024;
+const KINDS: usize = 16;
+/// Where the rules' part of the index starts.
+const RULES: usize = MOST_NODES * MOST_ATTRIBUTES;
+pub const INDEX_SIZE: usize = RULES + KINDS * MOST_ATTRIBUTES;
+
+/// Where each figure stands, at node × 32 + attribute, and each rule, at 32,768 + kind × 32 + attribute: the offset of its
+/// command and one, or 0.
+pub type Index = [u32; INDEX_SIZE];
+
+/// A checked sheet.
+#[derive(Clone, Copy)]
+pub struct Sheet<'a> {
+    pub bytes: &'a [u8],
+    pub attributes: usize,
+    pub nodes: usize,
+    pub index: &'a Index,
+}
+
+/// What σ hands on for a declared pair.
+pub enum Definition {
+    /// The figure's four-byte form.
+    Figure(u32),
+    /// The offset of the rule's expression.
+    Rule(usize),
+}
+
+/// The parts of a sheet in their order.
+#[derive(Clone, Copy, PartialEq, Eq, PartialOrd, Ord)]
+enum Part {
+    Attributes,
+    Nodes,
+    Figures,
+    Rules,
+}
+
+/// What is known of a sheet part way through its check.
+struct Progress<'a> {
+    bytes: &'a [u8],
+    at: usize,
+    part: Part,
+    attributes: usize,
+    nodes: usize,
+}
+
+impl<'a> Sheet<'a> {
+    /// Checks a sheet and fills the index.
+    pub fn check(bytes: &'a [u8], index: &'a mut Index) -> Result<Sheet<'a>, Stop> {
+        if bytes.len() > LONGEST_SHEET {
+            return Err(Stop::of(Reason::SheetLength));
+        }
+        index[RULES..].fill(0);
+        let mut progress = Progress {
+            bytes,
+            at: 0,
+            part: Part::Attributes,
+            attributes: 0,
+            nodes: 0,
+        };
+        while !progress.ends()? {
+            progress
+                .command(index)
+                .map_err(|reason| Stop::at(reason, progress.at))?;
+        }
+        let sheet = Sheet {
+            bytes,
+            attributes: progress.attributes,
+            nodes: progress.nodes,
+            index,
+        };
+        match sheet.first_undefined() {
+            Some(pair) => Err(Stop::at(Reason::NoDefinition, pair)),
+            None => Ok(sheet),
+        }
+    }
+
+    /// The first pair without definition, as node × 32 + attribute.
+    fn first_undefined(&self) -> Option<usize> {
+        (0..self.nodes).find_map(|node| {
+            let row = node * MOST_ATTRIBUTES;
+            let figures = &self.index[row..row + self.attributes];
+            let rules = &self.index[self.rules_of(node)..][..self.attributes];
+            let undefined = figures
+                .iter()
+                .zip(rules)
+                .position(|(figure, rule)| *figure == 0 && *rule == 0);
+            undefined.map(|attribute| row + attribute)
+        })
+    }
+
+    /// Where the rules of a node's kind start in the index.
+    fn rules_of(&self, node: usize) -> usize {
+        let kind = self.bytes[3 * self.attributes + 2 * node + 1];
+        RULES + usize::from(kind) * MOST_ATTRIBUTES
+    }
+
+    /// The definition in force for a declared pair: the figure if there is one, else the rule.
+    pub fn definition(&self, node: u16, attribute: u8) -> Definition {
+        let node = usize::from(node);
+        let figure = self.index[node * MOST_ATTRIBUTES + usize::from(attribute)] as usize;
+        if figure != 0 {
+            return Definition::Figure(four(self.bytes, figure + 3));
+        }
+        let rule = self.index[self.rules_of(node) + usize::from(attribute)] as usize;
+        Definition::Rule(rule + 4)
+    }
+
+    /// The type of an attribute's value.
+    pub fn result(&self, attribute: u8) -> Base {
+        Base::of(self.bytes[3 * usize::from(attribute) + 1])
+    }
+
+    /// The type of an attribute's parameter.
+    pub fn parameter(&self, attribute: u8) -> Base {
+        Base::of(self.bytes[3 * usize::from(attribute) + 2])
+    }
+
+    /// The scope of a question, or of a rule whose parameter has a type.
+    pub fn scope(&self, parameter: Option<Base>) -> Scope<'a> {
+        Scope {
+            sheet: self.bytes,
+            attributes: self.attributes,
+            nodes: self.nodes,
+            parameter,
+        }
+    }
+}
+
+impl Progress<'_> {
+    /// Whether the end command is reached, with nothing after it.
+    fn ends(&self) -> Result<bool, Stop> {
+        match self.bytes[self.at..] {
+            [] => Err(Stop::at(Reason::Command, self.at)),
+            [0x5A] => Ok(true),
+            [0x5A, ..] => Err(Stop::at(Reason::Command, self.at + 1)),
+            _ => Ok(false),
+        }
+    }
+
+    /// Takes in the command at the offset reached.
+    fn command(&mut self, index: &mut Index) -> Result<(), Reason> {
+        let (part, width) = match self.bytes[self.at] {
+            0x41 => (Part::Attributes, 3),
+            0x4E => (Part::Nodes, 2),
+            0x56 => (Part::Figures, 8),
+            0x52 => (Part::Rules, 5),
+            _ => return Err(Reason::Command),
+        };
+        let command = self.bytes.get(self.at..self.at + width);
+        let command = command.ok_or(Reason::Command)?;
+        if part < self.part {
+            return Err(Reason::Command);
+        }
+        let more = match part {
+            Part::Attributes => self.attribute(command)?,
+            Part::Nodes => self.node(command, index)?,
+            Part::Figures => self.figure(command, index)?,
+            Part::Rules => self.rule(command, index)?,
+        };
+        self.part = part;
+        self.at += width + more;
+        Ok(())
+    }
+
+    fn attribute(&mut self, command: &[u8]) -> Result<usize, Reason> {
+        if self.attributes == MOST_ATTRIBUTES {
+            return Err(Reason::TooMany);
+        }
+        if command[1] > 3 || command[2] > 3 {
+            return Err(Reason::Operand);
+        }
+        self.attributes += 1;
+        Ok(0)
+    }
+
+    fn node(&mut self, command: &[u8], index: &mut Index) -> Result<usize, Reason> {
+        if self.nodes == MOST_NODES {
+            return Err(Reason::TooMany);
+        }
+        if usize::from(command[1]) >= KINDS {
+            return Err(Reason::Operand);
+        }
+        index[self.nodes * MOST_ATTRIBUTES..][..MOST_ATTRIBUTES].fill(0);
+        self.nodes += 1;
+        Ok(0)
+    }
+
+    fn figure(&mut self, command: &[u8], index: &mut Index) -> Result<usize, Reason> {
+        let node = usize::from(two(command, 1));
+        let attribute = usize::from(command[3]);
+        if node >= self.nodes || attribute >= self.attributes {
+            return Err(Reason::Operand);
+        }
+        if !Base::of(self.bytes[3 * attribute + 1]).has(four(command, 4), self.nodes) {
+            return Err(Reason::Operand);
+        }
+        self.define(&mut index[node * MOST_ATTRIBUTES + attribute])?;
+        Ok(0)
+    }
+
+    /// The width of the rule's expression.
+    fn rule(&mut self, command: &[u8], index: &mut Index) -> Result<usize, Reason> {
+        let length = usize::from(two(command, 3));
+        let start = self.at + command.len();
+        let expression = self.bytes.get(start..start + length);
+        let expression = expression.ok_or(Reason::Command)?;
+        let kind = usize::from(command[1]);
+        let attribute = usize::from(command[2]);
+        if kind >= KINDS || attribute >= self.attributes {
+            return Err(Reason::Operand);
+        }
+        let place = &mut index[RULES + kind * MOST_ATTRIBUTES + attribute];
+        if *place != 0 {
+            return Err(Reason::SecondDefinition);
+        }
+        let [result, parameter] = two(self.bytes, 3 * attribute + 1).to_le_bytes();
+        let scope = Scope {
+            sheet: self.bytes,
+            attributes: self.attributes,
+            nodes: self.nodes,
+            parameter: Some(Base::of(parameter)),
+        };
+        let typ = scope.read_whole(expression).ok_or(Reason::RuleForm)?;
+        if typ != Type::base(Base::of(result)) {
+            return Err(Reason::RuleType);
+        }
+        self.define(place)?;
+        Ok(length)
+    }
+
+    /// The command at the offset reached becomes the definition at a place of the index.
+    fn define(&self, place: &mut u32) -> Result<(), Reason> {
+        if *place != 0 {
+            return Err(Reason::SecondDefinition);
+        }
+        *place = self.at as u32 + 1;
+        Ok(())
+    }
+}

@@ -1,0 +1,132 @@
+//! The twin against the second evaluator: every field of every answer, every byte of the store after it.
+
+use oracle::case::{read_lists, Case};
+use oracle::compare::Counts;
+use oracle::examples::read_examples;
+use oracle::generate;
+use oracle::{compare, Answer, Engine};
+use twin::{Scratch, Sheet, Store};
+
+fn answer(given: twin::Answer) -> Answer {
+    let [number, place, typ, value, steps, kept] = given.fields();
+    Answer {
+        number,
+        place,
+        typ,
+        value,
+        steps,
+        kept,
+    }
+}
+
+/// The twin in scratch that earlier calls have written.
+#[derive(Default)]
+struct Lent(Box<Scratch>);
+
+impl Engine for Lent {
+    fn ask(
+        &mut self,
+        sheet: &[u8],
+        store: &mut [u8],
+        kept: u64,
+        question: &[u8],
+        budget: u64,
+    ) -> Answer {
+        answer(twin::ask_in(
+            sheet,
+            question,
+            store,
+            kept,
+            budget,
+            &mut self.0,
+        ))
+    }
+}
+
+/// The list's questions put to a sheet and a store that are checked once, beside `ask` and `check` for each.
+fn checked_once(case: &Case) {
+    let Scratch {
+        index,
+        links,
+        stack,
+    } = &mut *Box::<Scratch>::default();
+    let mut bytes = case.store.clone();
+    let Ok(sheet) = Sheet::check(&case.sheet, index) else {
+        return;
+    };
+    let Ok(mut store) = Store::check(&sheet, &mut bytes, case.kept, links) else {
+        return;
+    };
+    let mut expected_store = case.store.clone();
+    let mut kept = case.kept;
+    let mut scratch = Box::<Scratch>::default();
+    for ask in &case.asks {
+        let refused = twin::check(
+            &case.sheet,
+            &ask.question,
+            &mut expected_store,
+            kept,
+            ask.budget,
+            &mut scratch.index,
+            &mut scratch.links,
+        );
+        let expected = twin::ask(
+            &case.sheet,
+            &ask.question,
+            &mut expected_store,
+            kept,
+            ask.budget,
+        );
+        let before = expected
+            .ending
+            .err()
+            .filter(|stop| stop.reason as u32 <= 13);
+        assert_eq!(refused.err(), before);
+        let given = twin::ask_checked(&sheet, &mut store, &ask.question, ask.budget, stack);
+        assert_eq!(given, expected);
+        assert_eq!(store.entries.as_flattened(), expected_store);
+        kept = given.kept;
+    }
+}
+
+fn agree(lists: impl Iterator<Item = Case>) -> Counts {
+    let mut lent = Lent::default();
+    let mut counts = Counts::default();
+    for case in lists {
+        match compare(&mut lent, &case) {
+            Ok(more) => counts.add(&more),
+            Err(mismatch) => panic!("{mismatch}\n{}", case.answered(&mut lent)),
+        }
+        checked_once(&case);
+    }
+    counts
+}
+
+#[test]
+fn the_vectors_agree() {
+    let text = include_str!("../../../tests/vectors/base.txt");
+    let lists = read_lists(text).expect("the vectors' form");
+    for listed in &lists {
+        assert_eq!(listed.case.clone().answered(&mut Lent::default()), *listed);
+    }
+    agree(lists.into_iter().map(|listed| listed.case));
+}
+
+#[test]
+fn the_examples_of_the_stops_page_agree() {
+    let page = include_str!("../../../docs/STOPS.md");
+    let examples = read_examples(page).expect("the page's form");
+    let counts = agree(examples.into_iter().map(|example| example.case));
+    assert_eq!(counts.unmet(), Vec::<i64>::new());
+}
+
+#[test]
+fn generated_lists_agree_and_meet_every_number() {
+    let counts = agree((0..3_000).map(|number| generate::case(11, number)));
+    assert_eq!(counts.unmet(), Vec::<i64>::new());
+}
+
+#[test]
+fn ask_takes_the_stack_that_it_says() {
+    assert!(size_of::<Scratch>() < 280_000);
+}
