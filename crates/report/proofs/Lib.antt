@@ -4,3 +4,5 @@ pub mod Preparing
 pub mod Turns
 pub mod Running
 pub mod Printed
+pub mod Runs
+pub mod LongSheets

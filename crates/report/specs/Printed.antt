@@ -15,9 +15,12 @@ put (question bytes) = bytes
 put cut = []
 
 -- "all to one store of 1,024 with budget 1,000,000"
+abbrev pub asks : List ℕ → Call
+asks bytes = record { question = bytes; budget = 1000000 }
+
 unfoldable pub calls : List Item → List Call
 calls [] = []
-calls (i ∷ l) = record { question = put i; budget = 1000000 } ∷ calls l
+calls (i ∷ l) = asks (put i) ∷ calls l
 
 unfoldable pub lines : List Answer → List ℕ
 lines [] = []

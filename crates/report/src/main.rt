@@ -11,9 +11,7 @@ ghost use lib.Seq.{sets};
 ghost use Rattle.libc.specs.Io.{Moved};
 ghost use Rattle.checks.specs.Answers.{answerOf};
 ghost use Rattle.lines.specs.Lines.{lineOf};
-ghost use Rattle.stream.specs.Stream.{front};
-ghost use Rattle.stream.specs.Next.{nextOf};
-ghost use Rattle.report.specs.Report.{Prepared, Put, lent, after, viewOf, Turns};
+ghost use Rattle.report.specs.Report.{Prepared, Put, lent, after, viewOf, next, Turns};
 
 // Where the run stands: the bytes at hand are those of the buffer from `from` to `to`; the entries kept; whether the input's end was seen;
 // and whether there is more to do.
@@ -213,7 +211,7 @@ fn turn(
     ensures { λ r. ⌜ Prepared check (now (sheet .entry)) (now (index .entry)) (now (store .exit)) (r .kept) (now (links .exit)) ⌝ }
     ensures { λ r. ⌜ (r .from ≤ r .to) × (r .to ≤ length (now (input .exit))) ⌝ }
     ensures { λ r. ⌜ Turns (now (sheet .entry)) (viewOf (now (input .entry)) (now (store .entry)) s) (viewOf (now (input .exit)) (now (store .exit)) r)
-        (nextOf (front (viewOf (now (input .entry)) (now (store .entry)) s .hand)) (s .ended)) ⌝ }
+        (next (viewOf (now (input .entry)) (now (store .entry)) s)) ⌝ }
 {
     let from = s.from;
     let to = s.to;
