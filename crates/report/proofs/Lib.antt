@@ -1,0 +1,8 @@
+pub mod Puts
+pub mod Counts
+pub mod Preparing
+pub mod Turns
+pub mod Running
+pub mod Printed
+pub mod Runs
+pub mod LongSheets

@@ -1,0 +1,40 @@
+-- A question put to a refused sheet, and to one that was accepted.
+use mathlib.Core.List.{List, []}
+use mathlib.Core.Path.{_≡_, ap, ap₂}
+use Prim.Native.Nat.{ℕ}
+use native.Mathlib.Omega.{arith}
+use Rattle.specs.specs.Ask.{refusal, ask}
+use Rattle.specs.specs.Calls.{leaves, call}
+use Rattle.sheets.specs.declared.SheetCheck.{SheetCheck}
+use Rattle.sheets.specs.declared.SheetCheck.the-variants.{Refused}
+use Rattle.checks.specs.Answers.{answerOf}
+use Rattle.calls.specs.Prepared.{PreparedStore}
+use Rattle.calls.proofs.Preparing.{refuses, sheet-refused}
+use Rattle.report.specs.Report.{Prepared, Put, lent, after}
+use Rattle.checks.specs.declared.Answer as Declared
+
+module _ {check : SheetCheck} {sheet index store : List ℕ} {kept : ℕ} {links : List ℕ} (p : Prepared check sheet index store kept links) where
+  pub put-refused : {number place : ℕ} {r : Declared.Answer} (question : List ℕ) → check ≡ Refused number place → answerOf r ≡ refusal [] kept number place .answer
+      → Put check sheet index question store kept store links r
+  put-refused {number} {place} {r} question e a =
+      let same = refuses sheet store question kept 1000000 number place r (sheet-refused (p .checked) store question kept 1000000 e) a in
+      record {
+        answer = same .0;
+        store-is = same .1;
+        prepared =
+            record {
+              checked = p .checked;
+              store-ready = λ m n h. let z : _≡_ {A = ℕ} 0 1 = cc in absurd (omega arith);
+            };
+      }
+
+  pub put-accepted : {question left after : List ℕ} {r : Declared.Answer} → answerOf r ≡ ask sheet store kept question 1000000 .answer
+      → left ≡ ask sheet store kept question 1000000 .store → PreparedStore sheet left (answerOf r .kept) after
+      → Put check sheet index question store kept left after r
+  put-accepted a s ready =
+      record { answer = a; store-is = s; prepared = record { checked = p .checked; store-ready = λ m n h. ready } }
+
+pub put-after : {check : SheetCheck} {sheet index question store : List ℕ} {kept : ℕ} {left links : List ℕ} {r : Declared.Answer}
+    → Put check sheet index question store kept left links r → lent left (answerOf r .kept) ≡ after sheet (lent store kept) question
+unfolding after leaves call
+put-after p = ap₂ lent (p .store-is) (ap (λ a. a .kept) (p .answer))

@@ -1,0 +1,48 @@
+-- What stands at the front of bytes, by their number and the number that the first two say.
+use mathlib.Core.Bool.{Bool}
+use mathlib.Core.List.{List, [], _∷_}
+use mathlib.Core.Path.{_≡_, refl}
+use Prim.Native.Nat.{ℕ, _-_, _≤_, _<_}
+use native.Mathlib.Omega.{arith}
+use lib.ListN.{length, getD, take, drop, length-drop}
+use lib.Seq.{length-take-le}
+use borrow.Author.Tests.{le-leb, lt-leb}
+use Rattle.specs.specs.Values.{ofBytes}
+use Rattle.stream.specs.Stream.{nothing, whole, part, front}
+use Rattle.stream.specs.Next.{nextOf}
+use Rattle.stream.specs.declared.Next.the-variants.{Question}
+
+pub front-nothing : (b : List ℕ) → length b ≡ 0 → front b ≡ nothing
+unfolding front
+front-nothing [] h = refl
+front-nothing (x ∷ l) h = absurd (omega arith)
+
+pub front-one : (b : List ℕ) → (length b ≡ 0 → ⊥) → length b < 2 → front b ≡ part
+unfolding front
+front-one [] some h = absurd (some refl)
+front-one (x ∷ []) some h = refl
+front-one (x ∷ y ∷ l) some h = absurd (omega arith)
+
+pub front-whole : (b : List ℕ) → 2 ≤ length b → ofBytes (take 2 b) ≤ length b - 2
+    → front b ≡ whole (take (ofBytes (take 2 b)) (drop 2 b)) (drop (ofBytes (take 2 b)) (drop 2 b))
+unfolding front
+front-whole [] two h = absurd (omega arith)
+front-whole (x ∷ []) two h = absurd (omega arith)
+front-whole (x ∷ y ∷ l) two h = rw (le-leb (ofBytes (x ∷ y ∷ [])) (length l) (omega arith))
+
+pub front-part : (b : List ℕ) → 2 ≤ length b → length b - 2 < ofBytes (take 2 b) → front b ≡ part
+unfolding front
+front-part [] two h = absurd (omega arith)
+front-part (x ∷ []) two h = absurd (omega arith)
+front-part (x ∷ y ∷ l) two h = rw (lt-leb (ofBytes (x ∷ y ∷ [])) (length l) (omega arith))
+
+-- the largest length
+pub length-bound : (b : List ℕ) → ((i : ℕ) → getD b i 0 < 256) → ofBytes (take 2 b) < 65536
+unfolding ofBytes
+length-bound [] small = omega arith
+length-bound (x ∷ []) small = omega (arith, small 0)
+length-bound (x ∷ y ∷ l) small = omega (arith, small 0, small 1)
+
+pub next-whole : (b : List ℕ) (ended : Bool) (n : ℕ) → 2 ≤ length b → n ≡ ofBytes (take 2 b) → n ≤ length b - 2 → Question n ≡ nextOf (front b) ended
+unfolding nextOf
+next-whole b ended n two e h = rw (front-whole b two (rw e at h), length-take-le (ofBytes (take 2 b)) (drop 2 b) (rw (length-drop, ← e) h), e)

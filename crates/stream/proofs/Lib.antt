@@ -1,0 +1,4 @@
+pub mod Fronts
+pub mod Shifts
+pub mod Items
+pub mod Takes
