@@ -1,4 +1,5 @@
-//! What document 01 says, case by case.
+//! What document 01 says, case by case. The cases of `sheet_l` and `stops` are put to `crate::ask`, so that another test can put them to
+//! another engine.
 
 mod common;
 mod comparing;
@@ -7,3 +8,5 @@ mod sheet_l;
 mod stops;
 mod values;
 mod vectors;
+
+use oracle::ask::ask;

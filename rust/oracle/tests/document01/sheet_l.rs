@@ -1,7 +1,8 @@
 //! Document 01, "Sheet L and its questions" and "Likely misreadings".
 
+use crate::ask;
 use crate::common::*;
-use oracle::ask::{ask, read_question};
+use oracle::ask::read_question;
 use oracle::plain::{self, Ending};
 use oracle::sheet::Sheet;
 use oracle::values::Value;

@@ -1,7 +1,7 @@
 //! Document 01, "Stops by origin": each stop, its place, and the order among them.
 
+use crate::ask;
 use crate::common::*;
-use oracle::ask::ask;
 use oracle::Answer;
 
 const MOST: u64 = 1_000_000;
