@@ -5,6 +5,7 @@ use sheets::FoundFigure;
 use specs::Value;
 use stores::Found;
 ghost use mathlib.Core.List.{List};
+ghost use mathlib.Core.Option.{none};
 ghost use mathlib.Core.Path.{_≡_};
 ghost use Prim.Native.Nat.{ℕ, _/_, _%_, _≤_, _<_};
 ghost use lib.ListN.{getD};
@@ -47,6 +48,28 @@ fn cache_write(
     let Found::Nothing = stores::find(store, kept, links, node, attribute, word) else {
         return kept;
     };
+    stores::append(store, kept, links, node, attribute, word, value);
+    kept + 1
+}
+
+// CacheWrite of an occurrence that was looked for and is not kept.
+fn keep(
+    store: &mut [u8],
+    links: &mut [u32],
+    kept: usize,
+    node: u32,
+    attribute: u32,
+    word: u32,
+    value: u32,
+) -> usize
+    requires { ⌜ WriteReady (now store) (now links) kept × (attribute < 256) ⌝ }
+    requires { ⌜ findKey (now store) kept record { node = node; attribute = attribute; word = word } ≡ none ⌝ }
+    ensures { λ r. ⌜ (now (store .exit), r) ≡ cacheWrite (now (store .entry)) kept record { node = node; attribute = attribute; word = word } value ⌝ }
+    ensures { λ r. ⌜ Linked (now (store .exit)) r (now (links .exit)) ⌝ }
+{
+    if store.len() < 12 * kept + 12 {
+        return kept;
+    }
     stores::append(store, kept, links, node, attribute, word, value);
     kept + 1
 }
@@ -134,6 +157,7 @@ fn open_definition(
     a: usize,
     word: u32,
 ) -> Registers
+    requires { ⌜ findKey (now store) (m .kept) record { node = n; attribute = a; word = word } ≡ none ⌝ }
     requires { ⌜ AttributeReady (now sheet) (now index) attributes (now store) (now links) (now frames) (now forms) m n a ⌝ }
     ensures { λ r. ⌜ goes r (memoryOf (now (store .exit)) (now (frames .exit)) (now (forms .exit)))
         ≡ openFigure (now (sheet .entry)) (now (index .entry)) attributes (memoryOf (now (store .entry)) (now (frames .entry)) (now (forms .entry))) m n a word
@@ -143,7 +167,7 @@ fn open_definition(
     let FoundFigure::Of(v) = sheets::figure(sheet, index, n, a) else {
         return open_rule(sheet, index, attributes, frames, forms, m, n, a, word);
     };
-    let kept = cache_write(
+    let kept = keep(
         store,
         links,
         m.kept,

@@ -1,4 +1,5 @@
 -- `attributes::open_definition` meets its contract: the figure if there is one, else there is a rule.
+use native.Mathlib.Omega.{arith}
 use Rattle.sheets.specs.Scan.{figureOf}
 use Rattle.attributes.proofs.Writing.{answers}
 use Rattle.attributes.proofs.Opening.{no-place, figure-is, opens, opening-keeps}
@@ -17,7 +18,7 @@ enum-told : tie.Need-enum-told
 enum-told c = search needs
 
 open-rule-requires : tie.Need-open-rule-requires
-open-rule-requires c κs = record { rule = record { pair = c .before .before .before .before .before .before .before .before .before .before .before .pre .pair; all = c .before .before .before .before .before .before .before .before .before .before .before .pre .all; ruled = c .before .before .before .before .before .before .before .before .before .before .before .pre .defined (no-place _ _ (c .before .before .before .before .figure .ensures) (c .before .before .enum-told .given .1)) }; form = c .before .before .before .before .before .before .before .before .before .before .before .pre .form }
+open-rule-requires c κs = record { rule = record { pair = c .before .before .before .before .before .before .before .before .before .before .before .pre .1 .pair; all = c .before .before .before .before .before .before .before .before .before .before .before .pre .1 .all; ruled = c .before .before .before .before .before .before .before .before .before .before .before .pre .1 .defined (no-place _ _ (c .before .before .before .before .figure .ensures) (c .before .before .enum-told .given .1)) }; form = c .before .before .before .before .before .before .before .before .before .before .before .pre .1 .form }
 
 same-length : tie.Need-same-length
 same-length c = search needs
@@ -26,19 +27,19 @@ same-length-2 : tie.Need-same-length-2
 same-length-2 c = search needs
 
 returns : tie.Need-returns
-returns c = (opens _ _ _ _ _ _ _ _ (c .before .before .before .before .open-rule .ensures _) (sym (c .before .before .before .before .before .before .before .before .before .figure .ensures) ∙ ap figureOf (c .before .before .before .before .before .before .before .enum-told .given .1)), rw (opening-keeps _ _ _ _ _ _ _ _ (c .before .before .before .before .open-rule .ensures (c .before .before .before .before .before .before .before .before .before .before .before .before .before .before .before .before .args .store .now))) (c .before .before .before .before .before .before .before .before .before .before .before .before .before .before .before .before .pre .writes .linked))
+returns c = (opens _ _ _ _ _ _ _ _ (c .before .before .before .before .open-rule .ensures _) (sym (c .before .before .before .before .before .before .before .before .before .figure .ensures) ∙ ap figureOf (c .before .before .before .before .before .before .before .enum-told .given .1)), rw (opening-keeps _ _ _ _ _ _ _ _ (c .before .before .before .before .open-rule .ensures (c .before .before .before .before .before .before .before .before .before .before .before .before .before .before .before .before .args .store .now))) (c .before .before .before .before .before .before .before .before .before .before .before .before .before .before .before .before .pre .1 .writes .linked))
 
-cast-cache-write : tie.Need-cast-cache-write
-cast-cache-write c = search needs
+cast-keep : tie.Need-cast-keep
+cast-keep c = search needs
 
-cast-cache-write-2 : tie.Need-cast-cache-write-2
-cast-cache-write-2 c = search needs
+cast-keep-2 : tie.Need-cast-keep-2
+cast-keep-2 c = search needs
 
 word-of-requires : tie.Need-word-of-requires
 word-of-requires c κs = search needs
 
-cache-write-requires : tie.Need-cache-write-requires
-cache-write-requires c κs = search needs
+keep-requires : tie.Need-keep-requires
+keep-requires c κs = ((c .before .before .before .before .before .before .before .before .before .before .before .before .before .pre .1 .writes, omega (arith, c .before .before .before .before .before .before .before .before .before .before .before .before .before .pre .1 .pair .attribute, c .before .before .before .before .before .before .before .before .before .before .before .before .before .pre .1 .pair .known .attributes-bound)), c .before .before .before .before .before .before .before .before .before .before .before .before .before .pre .0)
 
 answered-requires : tie.Need-answered-requires
 answered-requires c κs = search needs
@@ -50,7 +51,7 @@ same-length-4 : tie.Need-same-length-4
 same-length-4 c = search needs
 
 returns-2 : tie.Need-returns-2
-returns-2 c = (rw (c .answered .ensures, figure-is _ _ (c .before .before .before .before .before .before .before .before .before .before .before .before .figure .ensures) _ (c .before .before .before .before .before .before .before .before .before .before .v .given .1)) (answers _ _ _ _ _ _ (c .before .before .before .before .before .before .before .before .before .before .before .before .before .before .before .before .before .before .before .args .m) _ _ _ _ (c .before .before .before .before .before .before .word-of .ensures) (c .before .before .before .before .before .cache-write .ensures .0)), rw (c .answered .ensures) (c .before .before .before .before .before .cache-write .ensures .1))
+returns-2 c = (rw (c .answered .ensures, figure-is _ _ (c .before .before .before .before .before .before .before .before .before .before .before .before .figure .ensures) _ (c .before .before .before .before .before .before .before .before .before .before .v .given .1)) (answers _ _ _ _ _ _ (c .before .before .before .before .before .before .before .before .before .before .before .before .before .before .before .before .before .before .before .args .m) _ _ _ _ (c .before .before .before .before .before .before .word-of .ensures) (c .before .before .before .before .before .keep .ensures .0)), rw (c .answered .ensures) (c .before .before .before .before .before .keep .ensures .1))
 
 pub open-definition-spec : {M : Type 1} → statement M
 open-definition-spec =
@@ -63,10 +64,10 @@ open-definition-spec =
     same-length
     same-length-2
     returns
-    cast-cache-write
-    cast-cache-write-2
+    cast-keep
+    cast-keep-2
     word-of-requires
-    cache-write-requires
+    keep-requires
     answered-requires
     same-length-3
     same-length-4

@@ -26,7 +26,7 @@ enum-told : tie.Need-enum-told
 enum-told c = search needs
 
 open-definition-requires : tie.Need-open-definition-requires
-open-definition-requires c κs = search needs
+open-definition-requires c κs = (nothing-found _ _ (c .before .before .before .before .before .before .find .ensures) refl (c .before .before .before .before .enum-told .given .1), (c .before .before .before .before .before .before .before .before .before .before .before .before .before .before .before .before .pre))
 
 same-length : tie.Need-same-length
 same-length c = search needs
