@@ -147,8 +147,8 @@ fn ask_store<'a>(
     }
 }
 
-// A question call. The indexes, the frames and the forms are scratch: nothing is asked of what they hold, and nothing is said of what they hold
-// afterwards.
+// A question call. `index`, `links`, `frames` and `forms` are scratch: nothing is asked of what they hold, and what they hold afterwards is free;
+// their lengths are in their types.
 pub fn ask<'a>(
     sheet: &'a [u8],
     question: &'a [u8],
