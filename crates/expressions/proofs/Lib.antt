@@ -3,3 +3,4 @@ pub mod Literals
 pub mod Composites
 pub mod Wholes
 pub mod Questions
+pub mod Within

@@ -2,7 +2,8 @@
 use mathlib.Core.Bool.{Bool}
 use mathlib.Core.Option.{Option, none, some}
 use mathlib.Core.List.{List}
-use Prim.Native.Nat.{ℕ, _+_, _*_}
+use Prim.Native.Nat.{ℕ, _+_, _*_, _/_, _%_}
+use lib.Dec.{eqb}
 use Rattle.specs.specs.Values.{Base, unitT, nodeT, baseCode, Ty, base, _⇒_}
 use Rattle.specs.specs.Expressions.{Expr, Head, Scope, Reading, malformed, reads, readAfter, readExpr, Whole, no-expression, expression}
 use Rattle.specs.specs.Types.{Attribute, given, infer}
@@ -30,6 +31,13 @@ inferAttribute a N X = given (base nodeT) N (given (base (a .parameter-type)) X 
 abbrev pub scopeOf : ℕ → ℕ → Bool → Bool → Scope
 scopeOf nodes attributes has-this has-parameter =
     record { nodes = nodes; attributes = attributes; has-this = has-this; has-parameter = has-parameter }
+
+-- Whether 0x30 and 0x31 may be used, in a number that also has, below 256, the code of the parameter's type.
+abbrev pub thisIn : ℕ → Bool
+thisIn within = eqb (within / 256 % 2) 1
+
+abbrev pub parameterIn : ℕ → Bool
+parameterIn within = eqb (within / 512 % 2) 1
 
 -- the width and the type's number of what was read
 unfoldable pub formOf : List Attribute → Base → Reading → Form

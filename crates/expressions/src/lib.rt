@@ -1,16 +1,17 @@
 // The form and the type of expressions (document 01, "The sheet"), read in one recursion over the bytes.
 // A type has a number (specs/Forms.antt): 1 Unit, 2 Bool, 3 Int, 4 Node, and from 5 on those of functions; 0 stands for no type.
+ghost use mathlib.Core.Bool.{cond};
 ghost use mathlib.Core.Path.{_≡_};
 ghost use mathlib.Core.List.{List};
 ghost use mathlib.Core.Option.{Option};
-ghost use Prim.Native.Nat.{ℕ, _+_, _*_, _≤_, _<_};
+ghost use Prim.Native.Nat.{ℕ, _+_, _*_, _%_, _≤_, _<_};
 ghost use lib.ListN.{length};
 ghost use Rattle.specs.specs.Values.{Base, boolT, nodeT, baseCode, baseOf, Ty, functionOf, functionType};
 ghost use Rattle.specs.specs.Expressions.{Scope, base-literal, function-literal, if-head, application-head, attribute-head, readExpr, readWhole};
 ghost use Rattle.specs.specs.Types.{Attribute, attributeAt, inferIf, inferApplication};
 ghost use Rattle.specs.specs.Sheet.{Sheet, nodeCount};
 ghost use Rattle.specs.specs.Ask.{checkQuestion};
-ghost use Rattle.expressions.specs.Forms.{typeNumber, inferredNumber, inferAttribute, scopeOf, formOf, formAfter, formedOf, questionOf};
+ghost use Rattle.expressions.specs.Forms.{typeNumber, inferredNumber, inferAttribute, scopeOf, thisIn, parameterIn, formOf, formAfter, formedOf, questionOf};
 ghost use Rattle.specs.specs.Layout.{attributesIn};
 
 // What reading at the front of some bytes comes to: no expression, or the bytes that one takes and the number of its type.
@@ -146,68 +147,44 @@ fn read_function(l: &[u8]) -> Form
 }
 
 // The three expressions of an IF.
-fn read_if(
-    types: &[u8],
-    attributes: usize,
-    nodes: usize,
-    this: bool,
-    parameter: bool,
-    p: u8,
-    l: &[u8],
-) -> Form
+fn read_if(types: &[u8], attributes: usize, nodes: usize, within: u32, l: &[u8]) -> Form
     requires { ⌜ 3 * attributes ≤ length (now types) ⌝ }
     ensures { λ r. ⌜ ((k : ℕ) → length (now (l .entry)) ≤ k
-        → r ≡ formAfter (scopeOf nodes attributes this parameter) (attributesIn (now (types .entry)) attributes) (baseOf p) k if-head (now (l .entry))) ⌝ }
+        → r ≡ formAfter (scopeOf nodes attributes (thisIn within) (parameterIn within)) (attributesIn (now (types .entry)) attributes) (baseOf (within % 256)) k if-head (now (l .entry))) ⌝ }
 {
-    let Form::Reads(m, c) = read(types, attributes, nodes, this, parameter, p, l) else {
+    let Form::Reads(m, c) = read(types, attributes, nodes, within, l) else {
         return Form::Malformed;
     };
-    let Form::Reads(n, t) = read(types, attributes, nodes, this, parameter, p, &l[m..]) else {
+    let Form::Reads(n, t) = read(types, attributes, nodes, within, &l[m..]) else {
         return Form::Malformed;
     };
     let at = m + n;
-    let Form::Reads(o, e) = read(types, attributes, nodes, this, parameter, p, &l[at..]) else {
+    let Form::Reads(o, e) = read(types, attributes, nodes, within, &l[at..]) else {
         return Form::Malformed;
     };
     Form::Reads(1 + m + n + o, if_number(c, t, e))
 }
 
 // The two expressions of an application.
-fn read_application(
-    types: &[u8],
-    attributes: usize,
-    nodes: usize,
-    this: bool,
-    parameter: bool,
-    p: u8,
-    l: &[u8],
-) -> Form
+fn read_application(types: &[u8], attributes: usize, nodes: usize, within: u32, l: &[u8]) -> Form
     requires { ⌜ 3 * attributes ≤ length (now types) ⌝ }
     ensures { λ r. ⌜ ((k : ℕ) → length (now (l .entry)) ≤ k
-        → r ≡ formAfter (scopeOf nodes attributes this parameter) (attributesIn (now (types .entry)) attributes) (baseOf p) k application-head (now (l .entry))) ⌝ }
+        → r ≡ formAfter (scopeOf nodes attributes (thisIn within) (parameterIn within)) (attributesIn (now (types .entry)) attributes) (baseOf (within % 256)) k application-head (now (l .entry))) ⌝ }
 {
-    let Form::Reads(m, f) = read(types, attributes, nodes, this, parameter, p, l) else {
+    let Form::Reads(m, f) = read(types, attributes, nodes, within, l) else {
         return Form::Malformed;
     };
-    let Form::Reads(n, x) = read(types, attributes, nodes, this, parameter, p, &l[m..]) else {
+    let Form::Reads(n, x) = read(types, attributes, nodes, within, &l[m..]) else {
         return Form::Malformed;
     };
     Form::Reads(1 + m + n, application_number(f, x))
 }
 
 // The attribute's number, and the expressions of the node and the parameter.
-fn read_attribute(
-    types: &[u8],
-    attributes: usize,
-    nodes: usize,
-    this: bool,
-    parameter: bool,
-    p: u8,
-    l: &[u8],
-) -> Form
+fn read_attribute(types: &[u8], attributes: usize, nodes: usize, within: u32, l: &[u8]) -> Form
     requires { ⌜ 3 * attributes ≤ length (now types) ⌝ }
     ensures { λ r. ⌜ ((k : ℕ) → length (now (l .entry)) ≤ k
-        → r ≡ formAfter (scopeOf nodes attributes this parameter) (attributesIn (now (types .entry)) attributes) (baseOf p) k attribute-head (now (l .entry))) ⌝ }
+        → r ≡ formAfter (scopeOf nodes attributes (thisIn within) (parameterIn within)) (attributesIn (now (types .entry)) attributes) (baseOf (within % 256)) k attribute-head (now (l .entry))) ⌝ }
 {
     if l.len() == 0 {
         return Form::Malformed;
@@ -216,30 +193,22 @@ fn read_attribute(
     if attributes <= a {
         return Form::Malformed;
     }
-    let Form::Reads(m, n) = read(types, attributes, nodes, this, parameter, p, &l[1..]) else {
+    let Form::Reads(m, n) = read(types, attributes, nodes, within, &l[1..]) else {
         return Form::Malformed;
     };
     let at = 1 + m;
-    let Form::Reads(o, x) = read(types, attributes, nodes, this, parameter, p, &l[at..]) else {
+    let Form::Reads(o, x) = read(types, attributes, nodes, within, &l[at..]) else {
         return Form::Malformed;
     };
     Form::Reads(2 + m + o, attribute_number(types, a, n, x))
 }
 
-// The expression at the front of e. The types of the attributes are read off their commands, `types`; `this` and `parameter` say
-// whether 0x30 and 0x31 may be used, and p is the code of the parameter's type.
-pub fn read(
-    types: &[u8],
-    attributes: usize,
-    nodes: usize,
-    this: bool,
-    parameter: bool,
-    p: u8,
-    e: &[u8],
-) -> Form
+// The expression at the front of e. The types of the attributes are read off their commands, `types`; `within` says in
+// one number, so that the recursion hands on few, what `within_of` puts into it.
+pub fn read(types: &[u8], attributes: usize, nodes: usize, within: u32, e: &[u8]) -> Form
     requires { ⌜ 3 * attributes ≤ length (now types) ⌝ }
     ensures { λ r. ⌜ ((k : ℕ) → length (now (e .entry)) ≤ k
-        → r ≡ formOf (attributesIn (now (types .entry)) attributes) (baseOf p) (readExpr (scopeOf nodes attributes this parameter) k (now (e .entry)))) ⌝ }
+        → r ≡ formOf (attributesIn (now (types .entry)) attributes) (baseOf (within % 256)) (readExpr (scopeOf nodes attributes (thisIn within) (parameterIn within)) k (now (e .entry)))) ⌝ }
 {
     if e.len() == 0 {
         return Form::Malformed;
@@ -258,25 +227,38 @@ pub fn read(
         }
         0x13 => read_node(nodes, l),
         0x14 => read_function(l),
-        0x20 => read_if(types, attributes, nodes, this, parameter, p, l),
-        0x21 => read_application(types, attributes, nodes, this, parameter, p, l),
-        0x22 => read_attribute(types, attributes, nodes, this, parameter, p, l),
+        0x20 => read_if(types, attributes, nodes, within, l),
+        0x21 => read_application(types, attributes, nodes, within, l),
+        0x22 => read_attribute(types, attributes, nodes, within, l),
         0x30 => {
-            if this {
+            if within / 256 % 2 == 1 {
                 Form::Reads(1, 4)
             } else {
                 Form::Malformed
             }
         }
         0x31 => {
-            if parameter {
-                Form::Reads(1, base_number(p))
+            if within / 512 % 2 == 1 {
+                Form::Reads(1, base_number((within % 256) as u8))
             } else {
                 Form::Malformed
             }
         }
         _ => Form::Malformed,
     }
+}
+
+fn flag(b: bool, n: u32) -> u32
+    ensures { λ r. ⌜ r ≡ cond b n 0 ⌝ }
+{
+    if b { n } else { 0 }
+}
+
+// Whether 0x30 and 0x31 may be used, and the code of the parameter's type, in one number.
+fn within_of(this: bool, parameter: bool, p: u8) -> u32
+    ensures { λ r. ⌜ (thisIn r ≡ this) × (parameterIn r ≡ parameter) × (r % 256 ≡ p) ⌝ }
+{
+    p as u32 + flag(this, 256) + flag(parameter, 512)
 }
 
 // The bytes as a whole: an expression of exactly their length, which is 1 to 256.
@@ -296,7 +278,7 @@ pub fn read_whole(
     if 256 < e.len() {
         return Formed::NoExpression;
     }
-    let Form::Reads(w, t) = read(types, attributes, nodes, this, parameter, p, e) else {
+    let Form::Reads(w, t) = read(types, attributes, nodes, within_of(this, parameter, p), e) else {
         return Formed::NoExpression;
     };
     if w == e.len() {

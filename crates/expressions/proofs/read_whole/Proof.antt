@@ -1,11 +1,14 @@
 -- The laws of Wholes.antt, at what `read` ensures.
-use borrow.Author.Needs.{needs}
 use Rattle.expressions.proofs.Wholes.{whole-long, whole-malformed, whole-reads, whole-left-over}
+use borrow.Author.Needs.{needs}
 use Rattle.expressions.proofs.read_whole.Statement.{statement}
 use Rattle.expressions.proofs.read_whole.Tie as tie
 
 returns : tie.Need-returns
 returns c = whole-long _ _ _ _ (c .if1 .taken)
+
+within-of-requires : tie.Need-within-of-requires
+within-of-requires c κs = search needs
 
 read-requires : tie.Need-read-requires
 read-requires c κs = search needs
@@ -17,14 +20,23 @@ enum-told : tie.Need-enum-told
 enum-told c = search needs
 
 returns-2 : tie.Need-returns-2
-returns-2 c = whole-malformed _ _ _ _ (c .before .before .before .if1 .left) (c .before .before .read .ensures) (c .enum-told .given .1)
+returns-2 c = let f = c .before .before .before .within-of .ensures in whole-malformed _ _ _ _ (c .before .before .before .before .if1 .left) (rw (f .0, f .1, f .2) at (c .before .before .read .ensures)) (c .enum-told .given .1)
 
 returns-3 : tie.Need-returns-3
-returns-3 c = whole-reads _ _ _ _ (c .before .before .before .before .before .if1 .left) (c .before .before .before .before .read .ensures) (c .before .before .w .given .1) (c .if2 .taken)
+returns-3 c = let f = c .before .before .before .before .before .within-of .ensures in whole-reads _ _ _ _ (c .before .before .before .before .before .before .if1 .left) (rw (f .0, f .1, f .2) at (c .before .before .before .before .read .ensures)) (c .before .before .w .given .1) (c .if2 .taken)
 
 returns-4 : tie.Need-returns-4
-returns-4 c = whole-left-over _ _ _ _ (c .before .before .before .before .before .if1 .left) (c .before .before .before .before .read .ensures) (c .before .before .w .given .1) (c .if2 .left)
+returns-4 c = let f = c .before .before .before .before .before .within-of .ensures in whole-left-over _ _ _ _ (c .before .before .before .before .before .before .if1 .left) (rw (f .0, f .1, f .2) at (c .before .before .before .before .read .ensures)) (c .before .before .w .given .1) (c .if2 .left)
 
 pub read-whole-spec : {M : Type 1} → statement M
 read-whole-spec =
-    tie.close (tie.spec returns read-requires enum-known-w enum-told returns-2 returns-3 returns-4)
+    tie.close
+    (tie.spec
+    returns
+    within-of-requires
+    read-requires
+    enum-known-w
+    enum-told
+    returns-2
+    returns-3
+    returns-4)
