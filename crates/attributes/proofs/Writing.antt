@@ -1,11 +1,11 @@
 -- CacheWrite by its three cases, and the laws of the moves that end in it.
-use mathlib.Core.Bool.{true}
+use mathlib.Core.Bool.{Bool, true, false}
 use mathlib.Core.List.{List}
 use mathlib.Core.Option.{none, some}
 use mathlib.Core.Path.{_≡_, ap}
-use Prim.Native.Nat.{ℕ, _+_, _*_, _-_, _/_, _%_, _≤_, _<_}
+use Prim.Native.Nat.{ℕ, _+_, _*_, _-_, _/_, _%_}
+use lib.Dec.{leb}
 use lib.ListN.{length, getD}
-use borrow.Author.Tests.{le-leb, lt-leb}
 use Rattle.specs.specs.Values.{toWord}
 use Rattle.specs.specs.declared.Value.{Value}
 use Rattle.stores.specs.Keys.{Key, findKey, recordOf, putAt}
@@ -14,18 +14,21 @@ use Rattle.engine.specs.Ready.{memoryOf}
 use Rattle.engine.specs.Steps.{goes, answered, appended, unlessFound, cacheWrite, closeForm, openFigure}
 
 module _ (store : List ℕ) (kept : ℕ) (q : Key) (value : ℕ) where
-  pub write-full : length store / 12 ≤ kept → (store, kept) ≡ cacheWrite store kept q value
+  abbrev isFull : Bool
+  isFull = leb (length store / 12) kept
+
+  pub write-full : isFull ≡ true → (store, kept) ≡ cacheWrite store kept q value
   unfolding cacheWrite
-  write-full full = rw (le-leb _ _ full)
+  write-full full = rw full
 
-  pub write-known : kept < length store / 12 → (j : ℕ) → findKey store kept q ≡ some j → (store, kept) ≡ cacheWrite store kept q value
+  pub write-known : isFull ≡ false → (j : ℕ) → findKey store kept q ≡ some j → (store, kept) ≡ cacheWrite store kept q value
   unfolding cacheWrite unlessFound
-  write-known room j found = rw (lt-leb _ _ room, found)
+  write-known room j found = rw (room, found)
 
-  pub write-new : kept < length store / 12 → findKey store kept q ≡ none → {store′ : List ℕ} → store′ ≡ putAt store kept (recordOf q value)
+  pub write-new : isFull ≡ false → findKey store kept q ≡ none → {store′ : List ℕ} → store′ ≡ putAt store kept (recordOf q value)
       → (store′, kept + 1) ≡ cacheWrite store kept q value
   unfolding cacheWrite unlessFound appended putAt recordOf
-  write-new room absent is = rw (lt-leb _ _ room, absent, is)
+  write-new room absent is = rw (room, absent, is)
 
 -- A form is closed with what CacheWrite leaves.
 pub closes : (store words forms : List ℕ) (m : Registers) {store′ : List ℕ} {kept′ w : ℕ} → w ≡ toWord (m .value)

@@ -8,7 +8,8 @@ ghost use mathlib.Core.List.{List};
 ghost use mathlib.Core.Option.{none};
 ghost use mathlib.Core.Path.{_≡_};
 ghost use Prim.Native.Nat.{ℕ, _/_, _%_, _≤_, _<_};
-ghost use lib.ListN.{getD};
+ghost use lib.Dec.{leb};
+ghost use lib.ListN.{length, getD};
 ghost use Rattle.specs.specs.Values.{toWord, nodeOf};
 ghost use Rattle.sheets.specs.Scan.{figurePlace, figureAt, indexed};
 ghost use Rattle.stores.specs.Keys.{Linked, findKey};
@@ -28,31 +29,14 @@ pub enum Step {
 // The kind of a form's frame.
 const ON_FORM: u64 = 6;
 
-// CacheWrite: the entry is appended if its occurrence is not kept and the store is not full. The kept number after it.
-fn cache_write(
-    store: &mut [u8],
-    links: &mut [u32],
-    kept: usize,
-    node: u32,
-    attribute: u32,
-    word: u32,
-    value: u32,
-) -> usize
-    requires { ⌜ WriteReady (now store) (now links) kept × (attribute < 256) ⌝ }
-    ensures { λ r. ⌜ (now (store .exit), r) ≡ cacheWrite (now (store .entry)) kept record { node = node; attribute = attribute; word = word } value ⌝ }
-    ensures { λ r. ⌜ Linked (now (store .exit)) r (now (links .exit)) ⌝ }
+// Whether a store with so many kept entries has no room for one more.
+fn is_full(store: &[u8], kept: usize) -> bool
+    ensures { λ r. ⌜ r ≡ leb (length (now (store .entry)) / 12) kept ⌝ }
 {
-    if store.len() / 12 <= kept {
-        return kept;
-    }
-    let Found::Nothing = stores::find(store, kept, links, node, attribute, word) else {
-        return kept;
-    };
-    stores::append(store, kept, links, node, attribute, word, value);
-    kept + 1
+    store.len() / 12 <= kept
 }
 
-// CacheWrite of an occurrence that was looked for and is not kept.
+// CacheWrite of an occurrence that was looked for and is not kept: the entry is appended if the store is not full. The kept number after it.
 fn keep(
     store: &mut [u8],
     links: &mut [u32],
@@ -67,11 +51,34 @@ fn keep(
     ensures { λ r. ⌜ (now (store .exit), r) ≡ cacheWrite (now (store .entry)) kept record { node = node; attribute = attribute; word = word } value ⌝ }
     ensures { λ r. ⌜ Linked (now (store .exit)) r (now (links .exit)) ⌝ }
 {
-    if store.len() < 12 * kept + 12 {
+    if is_full(store, kept) {
         return kept;
     }
     stores::append(store, kept, links, node, attribute, word, value);
     kept + 1
+}
+
+// CacheWrite: as `keep`, if the occurrence is not kept. A full store is not searched.
+fn cache_write(
+    store: &mut [u8],
+    links: &mut [u32],
+    kept: usize,
+    node: u32,
+    attribute: u32,
+    word: u32,
+    value: u32,
+) -> usize
+    requires { ⌜ WriteReady (now store) (now links) kept × (attribute < 256) ⌝ }
+    ensures { λ r. ⌜ (now (store .exit), r) ≡ cacheWrite (now (store .entry)) kept record { node = node; attribute = attribute; word = word } value ⌝ }
+    ensures { λ r. ⌜ Linked (now (store .exit)) r (now (links .exit)) ⌝ }
+{
+    if is_full(store, kept) {
+        return kept;
+    }
+    let Found::Nothing = stores::find(store, kept, links, node, attribute, word) else {
+        return kept;
+    };
+    keep(store, links, kept, node, attribute, word, value)
 }
 
 // The value that a form waited for is kept, and given to the frame around it.

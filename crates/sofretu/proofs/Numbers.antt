@@ -1,20 +1,16 @@
--- The numbers of the C calls: two's complement of 64 bits, and that a refusal's number is never 0.
+-- The numbers of the C calls: a refusal's number is never 0, and the six of an answer.
 use mathlib.Core.Bool.{Bool, true, false, cond, _&&_}
 use mathlib.Core.List.{List, [], _∷_, _++_}
 use mathlib.Core.Path.{_≡_, refl, sym, _∙_}
-use Prim.Native.Nat.{ℕ, zero, suc, _-_, _%_, _≤_, _<_}
+use Prim.Native.Nat.{ℕ, zero, suc, _%_, _<_}
 use native.Mathlib.Omega.{arith}
 use lib.Dec.{leb, eqb}
 use lib.ListN.{length, take, drop}
-use lib.IntN.{ℤ, negsuc, _-ℤ_}
-use mir.Val.{toZ}
-use mir.Syntax.{w64}
-use mir.Facts.{toZ-pos}
+use lib.IntN.{ℤ}
 use Rattle.specs.specs.Sheet.{Sheet, Checked, refused, accepted, checkSheet}
 use Rattle.specs.specs.Caching.{Entry}
 use Rattle.specs.specs.Store.{isEntry, entryOf, readEntries, capacity, checkStore}
 use Rattle.specs.proofs.Accepted.{refused-numbers}
-use Rattle.values.proofs.Integers.{turned}
 use Rattle.sheets.specs.declared.SheetCheck.{SheetCheck}
 use Rattle.sheets.specs.declared.SheetCheck.the-variants as for-sheet
 use Rattle.sheets.specs.Scan.{checkOf, Checks}
@@ -24,10 +20,6 @@ use Rattle.stores.specs.Keys.{storeCheckOf, StoreChecked}
 use Rattle.calls.specs.Prepared.{PreparedSheet}
 use Rattle.calls.proofs.Preparing.{sheet-prepared, sheet-of, store-prepared}
 use Rattle.sofretu.specs.Check.{sheetFound, storeFound, StoreFound}
-
--- What two's complement reads of a number with the top bit set.
-pub top-half : (n : ℕ) → 9223372036854775808 ≤ n → negsuc 0 -ℤ toZ w64 (18446744073709551615 - n) ≡ negsuc (18446744073709551615 - n)
-top-half n h = rw (toZ-pos w64 {n = 18446744073709551615 - n} (omega arith)) (turned (18446744073709551615 - n))
 
 -- ---- The sheet
 

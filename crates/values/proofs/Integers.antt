@@ -42,7 +42,7 @@ pub difference-fits : (y z : ℤ) → mag y < 2 ^ 31 → mag z < 2 ^ 31 → SFit
 difference-fits y z p q = record { sfits = omega (arith, mag-sum y (negℤ z), mag-negated z) }
 
 -- -1 - z turns -(n + 1) into n and n into -(n + 1).
-pub turned : (n : ℕ) → negsuc 0 -ℤ pos n ≡ negsuc n
+turned : (n : ℕ) → negsuc 0 -ℤ pos n ≡ negsuc n
 turned zero = refl
 turned (suc n) = ap (λ k. negsuc (suc k)) (zero-add n)
 
@@ -83,9 +83,9 @@ equal-bits (negsuc m) (negsuc n) p q = go (eqb m n) refl
 
 -- ---- Two's complement
 
--- What two's complement reads of a number with the top bit set.
-pub top-half : (w : ℕ) → 2147483648 ≤ w → negsuc 0 -ℤ toZ w32 (4294967295 - w) ≡ negsuc (4294967295 - w)
-top-half w h = rw (toZ-pos w32 {n = 4294967295 - w} (omega arith)) (turned (4294967295 - w))
+-- What two's complement reads of a number with the top bit set, whose other bits are those of n turned over.
+pub top-half : (w : Width) (n : ℕ) → n < 2 ^ hbits w → negsuc 0 -ℤ toZ w n ≡ negsuc n
+top-half w n h = rw (toZ-pos w {n = n} h) (turned n)
 
 -- The bits of a negative Int.
 pub unsigned-negative : (z : ℤ) → ltZ z (pos 0) ≡ true → unsigned z ≡ 4294967295 - mag z
