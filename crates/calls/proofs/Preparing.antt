@@ -8,7 +8,7 @@ use lib.Dec.{leb}
 use lib.ListN.{length}
 use borrow.Author.Tests.{leb-true}
 use Rattle.specs.specs.Expressions.{Expr}
-use Rattle.specs.specs.Layout.{attributesIn}
+use Rattle.values.specs.Layout.{attributesIn}
 use Rattle.specs.specs.Sheet.{Sheet, Checked, refused, accepted, checkSheet}
 use Rattle.specs.specs.Caching.{Entry}
 use Rattle.specs.specs.Store.{checkStore}

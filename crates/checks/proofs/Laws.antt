@@ -5,7 +5,7 @@ use Prim.Native.Nat.{ℕ, _*_, _≤_, _<_}
 use native.Mathlib.Omega.{arith}
 use borrow.Author.Tests.{le-leb, lt-leb}
 use lib.ListN.{length}
-use Rattle.specs.specs.Layout.{attributesIn}
+use Rattle.values.specs.Layout.{attributesIn}
 use Rattle.specs.specs.Sheet.{Sheet, nodeCount, attributeCount, Checked, refused, accepted, checkSheet}
 use Rattle.specs.specs.Caching.{Entry}
 use Rattle.specs.specs.Store.{checkStore}

@@ -12,7 +12,7 @@ use borrow.Author.Tests.{eqb-true, eqb-false, lt-ltb, le-ltb, eq-eqb, ne-eqb}
 use Rattle.specs.specs.Values.{Base, unitT, boolT, intT, nodeT, baseCode, baseOf, Ty, base, _⇒_}
 use Rattle.specs.specs.Types.{attributeAt, sameBase, sameTy, given, inferIf, inferApplication}
 use Rattle.expressions.specs.Forms.{typeNumber, inferredNumber, inferAttribute}
-use Rattle.specs.specs.Layout.{attributesIn}
+use Rattle.values.specs.Layout.{attributesIn}
 
 pub base-small : (B : Base) → baseCode B < 4
 base-small unitT = omega arith

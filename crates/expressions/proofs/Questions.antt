@@ -16,7 +16,7 @@ use Rattle.expressions.specs.declared.Formed.the-variants.{NoExpression,
 use Rattle.expressions.specs.declared.QuestionCheck.{QuestionCheck}
 use Rattle.expressions.specs.declared.QuestionCheck.the-variants.{Refused, Accepted}
 use Rattle.expressions.specs.Forms.{typeNumber, inferredNumber, scopeOf, formedOf, inferredCode, questionOf}
-use Rattle.specs.specs.Layout.{attributesIn}
+use Rattle.values.specs.Layout.{attributesIn}
 use Rattle.expressions.proofs.Numbers.{base-small, number-positive, attributes-count}
 
 -- ---- What the code answers

@@ -12,7 +12,7 @@ ghost use Rattle.specs.specs.Types.{Attribute, attributeAt, inferIf, inferAppli
 ghost use Rattle.specs.specs.Sheet.{Sheet, nodeCount};
 ghost use Rattle.specs.specs.Ask.{checkQuestion};
 ghost use Rattle.expressions.specs.Forms.{typeNumber, inferredNumber, inferAttribute, scopeOf, thisIn, parameterIn, formOf, formAfter, formedOf, questionOf};
-ghost use Rattle.specs.specs.Layout.{attributesIn};
+ghost use Rattle.values.specs.Layout.{attributesIn};
 
 // What reading at the front of some bytes comes to: no expression, or the bytes that one takes and the number of its type.
 pub enum Form {

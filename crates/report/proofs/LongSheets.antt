@@ -10,9 +10,8 @@ use lib.Seq.{take-all, length-take-le}
 use borrow.Author.Tests.{leb-true, leb-false, lt-leb}
 use Rattle.specs.specs.Sheet.{checkSheet}
 use Rattle.specs.specs.Ask.{ask}
-use Rattle.specs.specs.Calls.{Call, Lent, call, answers}
+use Rattle.specs.specs.Calls.{Call, Lent, empty, call, answers}
 use Rattle.stream.specs.Stream.{items}
-use Rattle.specs.specs.TableL.{empty}
 use Rattle.report.specs.Printed.{calls, lines, printed}
 
 same-check : (sheet : List ℕ) → checkSheet (take 65537 sheet) ≡ checkSheet sheet

@@ -3,8 +3,8 @@ use mathlib.Core.List.{List, [], _∷_, _++_}
 use mathlib.Core.Path.{_≡_}
 use Prim.Native.Nat.{ℕ}
 use Rattle.specs.specs.Ask.{Answer}
-use Rattle.specs.specs.Calls.{Call, answers}
-use Rattle.specs.specs.TableL.{empty, sheetL, D, node2Dial, ownOfUp}
+use Rattle.specs.specs.Calls.{Call, empty, answers}
+use Rattle.specs.specs.TableL.{sheetL, D, node2Dial, ownOfUp}
 use Rattle.lines.specs.Lines.{lineOf}
 use Rattle.stream.specs.Stream.{Item, question, cut, items}
 

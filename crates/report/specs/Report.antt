@@ -6,7 +6,7 @@ use Prim.Native.Nat.{ℕ, _+_, _-_}
 use lib.Dec.{eqb}
 use lib.ListN.{length, take, drop}
 use Rattle.specs.specs.Ask.{Answer, ask}
-use Rattle.specs.specs.Calls.{Lent, leaves, call}
+use Rattle.specs.specs.Calls.{Lent, empty, leaves, call}
 use Rattle.sheets.specs.Scan.{Checks}
 use Rattle.sheets.specs.declared.SheetCheck.{SheetCheck}
 use Rattle.sheets.specs.declared.SheetCheck.the-variants.{Accepted}
@@ -16,7 +16,6 @@ use Rattle.stream.specs.declared.Next.{Next}
 use Rattle.stream.specs.declared.Next.the-variants.{Question, Cut, End, More}
 use Rattle.stream.specs.Stream.{front}
 use Rattle.stream.specs.Next.{nextOf}
-use Rattle.specs.specs.TableL.{empty}
 use Rattle.report.specs.Printed.{asks}
 use Rattle.report.specs.declared.State.{State}
 use Rattle.checks.specs.declared.Answer as Declared

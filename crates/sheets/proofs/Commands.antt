@@ -11,7 +11,7 @@ use Rattle.specs.specs.Values.{Base, unitT, boolT, intT, nodeT, baseCode, baseO
 use Rattle.specs.specs.Expressions.{Expr, Whole, no-expression, expression, readWhole}
 use Rattle.specs.specs.Types.{Attribute, infer, hasType}
 use Rattle.specs.specs.Sheet.{Command, no-command, commandOf}
-use Rattle.specs.specs.Layout.{attributesIn}
+use Rattle.values.specs.Layout.{attributesIn}
 use Rattle.specs.proofs.Inference.{hasType-sound, hasType-complete}
 use Rattle.expressions.specs.declared.Formed.{Formed}
 use Rattle.expressions.specs.declared.Formed.the-variants.{NoExpression, Expression}

@@ -16,7 +16,7 @@ use Rattle.specs.specs.Values.{baseOf}
 use Rattle.specs.specs.Types.{Attribute, attributeAt}
 use Rattle.specs.specs.Sheet.{Sheet, nodeCount, attributeCount, figureFor, ruleFor, ruled, figured, definition}
 use Rattle.sheets.specs.Scan.{figurePlace, rulePlace, figureAt, pieceAt, indexed, clearRow, FigureFits, RuleFits, Indexed}
-use Rattle.specs.specs.Layout.{attributesIn, kindsIn}
+use Rattle.values.specs.Layout.{attributesIn, kindsIn}
 
 -- ---- Attributes and kinds
 

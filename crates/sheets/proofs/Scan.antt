@@ -22,7 +22,7 @@ use Rattle.sheets.specs.declared.Progress.{Progress}
 use Rattle.sheets.specs.declared.SheetCheck.{SheetCheck}
 use Rattle.sheets.specs.declared.SheetCheck.the-variants.{Refused, Accepted}
 use Rattle.sheets.specs.Scan.{figurePlace, rulePlace, indexSize, figureAt, pieceAt, indexed, Scanned, stops, ends, goes-on, demand, scanAttribute, clearRow, scanNode, scanFigure, demandRule, scanRule, scanEnd, scanAt, scanCommand, pairIndexed, isIndexed, missingAt, missingFrom, Scan, scanned, scanFrom, start, scanSheet, checkOf, Indexed, scanOf, Checks}
-use Rattle.specs.specs.Layout.{attributesIn, kindsIn}
+use Rattle.values.specs.Layout.{attributesIn, kindsIn}
 use Rattle.sheets.proofs.Indexed.{attributes-snoc, kinds-snoc, clear-length, clear-other, clear-same, attribute-by-index, definition-by-index, figure-indexed, rule-indexed}
 
 -- ---- The pass for missing pairs

@@ -21,7 +21,7 @@ use Rattle.sheets.specs.declared.FoundFigure.{FoundFigure}
 use Rattle.sheets.specs.declared.FoundFigure.the-variants.{Of, NoFigure}
 use Rattle.sheets.specs.declared.SheetCheck.{SheetCheck}
 use Rattle.sheets.specs.declared.SheetCheck.the-variants.{Refused, Accepted}
-use Rattle.specs.specs.Layout.{attributesIn, kindsIn}
+use Rattle.values.specs.Layout.{attributesIn, kindsIn}
 
 -- ---- What stands where
 

@@ -1,6 +1,7 @@
 -- Lists of question calls (document 01, "Contracts": "The list is any number of question calls, none included").
 use mathlib.Core.List.{List, [], _∷_}
-use Prim.Native.Nat.{ℕ}
+use Prim.Native.Nat.{ℕ, _*_}
+use lib.ListN.{replicate}
 use Rattle.specs.specs.Ask.{Answer, Outcome, ask}
 
 -- A call's question bytes and budget.
@@ -12,6 +13,10 @@ pub record Call : Type 0 where
 pub record Lent : Type 0 where
   pub store : List ℕ
   pub kept : ℕ
+
+-- a store of this capacity, empty
+abbrev pub empty : ℕ → Lent
+empty capacity = record { store = replicate (12 * capacity) 0; kept = 0 }
 
 unfoldable pub leaves : Outcome → Lent
 leaves o = record { store = o .store; kept = o .answer .kept }

@@ -2,7 +2,6 @@ pub mod Values
 pub mod Expressions
 pub mod Types
 pub mod Sheet
-pub mod Layout
 pub mod Terms
 pub mod Plain
 pub mod Caching

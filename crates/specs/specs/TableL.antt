@@ -2,8 +2,8 @@
 use mathlib.Core.Bool.{true}
 use mathlib.Core.List.{List, [], _∷_}
 use mathlib.Core.Path.{_≡_}
-use Prim.Native.Nat.{ℕ, _*_}
-use lib.ListN.{replicate, take}
+use Prim.Native.Nat.{ℕ}
+use lib.ListN.{take}
 use lib.IntN.{ℤ, pos}
 use Rattle.specs.specs.Values.{Value, unit, bool, int, node}
 use Rattle.specs.specs.Expressions.{Expr}
@@ -12,7 +12,7 @@ use Rattle.specs.specs.Plain.{EndsWithValue, EndsOnNull, RunsForEver}
 use Rattle.specs.specs.Caching.{Entry}
 use Rattle.specs.specs.Store.{entriesBytes}
 use Rattle.specs.specs.Ask.{Answer, checkQuestion, asked}
-use Rattle.specs.specs.Calls.{Call, Lent, answers, afterCalls}
+use Rattle.specs.specs.Calls.{Call, empty, answers, afterCalls}
 
 -- "Sheet L, 103 bytes: attributes up (0, Node), own (1, Int), dial (2, Int), all with Unit parameter. Nodes 0 (kind 0), 1 and 2
 -- (kind 1). Figures: up is null, 0, 0; own is 700, 0, 811. Rules: dial for kind 0 is own of this node; for kind 1,
@@ -62,10 +62,6 @@ abbrev pub overTheEnd : List ℕ
 overTheEnd = 0x21 ∷ 0x21 ∷ 0x14 ∷ 0x04 ∷ 0x12 ∷ 0xFF ∷ 0xFF ∷ 0xFF ∷ 0x7F ∷ 0x12 ∷ 0x01 ∷ 0x00 ∷ 0x00 ∷ 0x00 ∷ []
 
 -- ---- The table
-
--- a store of this capacity, empty
-abbrev pub empty : ℕ → Lent
-empty capacity = record { store = replicate (12 * capacity) 0; kept = 0 }
 
 abbrev pub put-to : List ℕ → ℕ → Call
 put-to question budget = record { question = question; budget = budget }

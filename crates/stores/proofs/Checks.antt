@@ -11,7 +11,7 @@ use lib.Seq.{getD-drop}
 use borrow.Author.Tests.{lt-ltb, le-ltb, le-leb, lt-leb, eq-eqb, ne-eqb}
 use Rattle.specs.specs.Values.{baseOf, ofBytes, isWord}
 use Rattle.specs.specs.Types.{attributeAt}
-use Rattle.specs.specs.Layout.{attributesIn}
+use Rattle.values.specs.Layout.{attributesIn}
 use Rattle.specs.specs.Sheet.{Sheet, nodeCount, refused, accepted}
 use Rattle.specs.specs.Store.{isEntry, readEntries, checkStore}
 use Rattle.stores.specs.Keys.{keyAt, valueWord, entriesIn, Linked, storeCheckOf, StoreChecked}

@@ -9,7 +9,7 @@ use lib.ListN.{length, take, drop, getD}
 use Rattle.specs.specs.Values.{Base, ofBytes, toBytes, ofWord, toWord}
 use Rattle.specs.specs.declared.Value.{Value}
 use Rattle.specs.specs.Sheet.{Sheet, nodeCount, Checked, refused, accepted}
-use Rattle.specs.specs.Layout.{attributesIn}
+use Rattle.values.specs.Layout.{attributesIn}
 use Rattle.specs.specs.Terms.{Occurrence}
 use Rattle.specs.specs.Caching.{Entry}
 use Rattle.specs.specs.Store.{entryOf, checkStore}
