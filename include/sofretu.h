@@ -9,7 +9,7 @@
  *   - each pointer leads to as many bytes or numbers as its length or its array says (of length 0 it may be any pointer);
  *   - what is written (store, scratch, answer, place, found) overlaps nothing else that the call is given;
  *   - the thread has the stack that is said below.
- * Two calls require more, which is said with them.
+ * One call, sofretu_ask_checked, requires more, which is said with it.
  *
  * Stack: sofretu_ask and sofretu_check have their scratch on the stack: 512 KB suffice. The other calls: 256 KB suffice.
  */
@@ -78,7 +78,9 @@ void sofretu_ask(const uint8_t *sheet, uint64_t sheet_len,
                  uint64_t budget,
                  int64_t answer[SOFRETU_FIELDS]);
 
-/* The same with lent scratch. Nothing is asked of what the scratch holds, and what it holds afterwards is free. */
+/* The same with lent scratch. Nothing is asked of what the scratch holds. Afterwards `index` is that of an accepted sheet, as sofretu_check_sheet
+ * leaves it, and free of a refused one; `links` are those of the store that is left, if sheet and store were accepted, and else free; `frames`
+ * and `forms` are as lent under stops 1 to 13, and else free. */
 void sofretu_ask_in(const uint8_t *sheet, uint64_t sheet_len,
                     const uint8_t *question, uint64_t question_len,
                     uint8_t *store, uint64_t store_len, uint64_t kept,
@@ -88,12 +90,13 @@ void sofretu_ask_in(const uint8_t *sheet, uint64_t sheet_len,
                     int64_t answer[SOFRETU_FIELDS]);
 
 /* The check of a sheet, once for many questions: 0, or the stop's number, 1 to 8. `found` is place, attributes, nodes: the place is 0 of
- * an accepted sheet, the other two are 0 of a refused one. Fills `index`. */
+ * an accepted sheet, the other two are 0 of a refused one. Fills `index`, which is free afterwards of a refused sheet. */
 uint32_t sofretu_check_sheet(const uint8_t *sheet, uint64_t sheet_len,
                              uint32_t index[SOFRETU_INDEX], uint64_t found[3]);
 
-/* The check of a store, of a sheet that was accepted with these numbers of attributes and nodes: 0, 9 or 10, with its place. Fills `links`.
- * REQUIRES: attributes <= sheet_len / 3, which an accepted sheet's number meets. */
+/* The check of a store, of a sheet that was accepted with these numbers of attributes and nodes: 0, 9 or 10, with its place. Fills `links`, which
+ * are free afterwards of a refused store. Of other numbers it answers as for a sheet of so many nodes and of as many of these attributes as stand
+ * in its first bytes, three bytes to each: result type and parameter type are the second and the third (0 Unit, 1 Bool, 2 Int, else Node). */
 uint32_t sofretu_check_store(const uint8_t *sheet, uint64_t sheet_len,
                              uint64_t attributes, uint64_t nodes,
                              const uint8_t *store, uint64_t store_len, uint64_t kept,
@@ -102,7 +105,8 @@ uint32_t sofretu_check_store(const uint8_t *sheet, uint64_t sheet_len,
 /* A question to a checked sheet and a checked store: stops 11 to 16 are left. The number kept for the next question is the answer's.
  * REQUIRES: `index`, `attributes` and `nodes` as sofretu_check_sheet left them when it accepted these sheet bytes; `links` as
  * sofretu_check_store, when it accepted these store bytes with this `kept`, or an earlier call of this function left them.
- * With anything else the call has no meaning, and may read or write anywhere. Nothing is asked of `frames` and `forms`. */
+ * With anything else the call has no meaning, and may read or write anywhere. Nothing is asked of `frames` and `forms`, which are as lent
+ * under stops 11 to 13 and else free. */
 void sofretu_ask_checked(const uint8_t *sheet, uint64_t sheet_len,
                          uint64_t attributes, uint64_t nodes, const uint32_t index[SOFRETU_INDEX],
                          const uint8_t *question, uint64_t question_len,

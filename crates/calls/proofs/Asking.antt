@@ -7,35 +7,39 @@ use lib.ListN.{length}
 use Rattle.specs.specs.declared.Value.the-variants.{Unit as unit}
 use Rattle.specs.specs.Caching.{Ending, Ended}
 use Rattle.specs.specs.Ask.{endedAnswer, runQuestion, ask}
+use Rattle.specs.proofs.Calls.{Passed, passed, ask-runs}
 use Rattle.stores.specs.Keys.{Linked}
 use Rattle.engine.specs.declared.Registers.{Registers}
 use Rattle.engine.specs.Ready.{memoryOf}
 use Rattle.engine.specs.Loop.{Invariant, started, Final}
-use Rattle.engine.proofs.Loop.{question-short, invariant-start, invariant-answer, final-outcome}
+use Rattle.engine.proofs.Loop.{question-short, invariant-start, final-outcome}
 use Rattle.runs.specs.declared.RunEnd.{RunEnd}
 use Rattle.runs.specs.declared.RunEnd.the-variants as End
 use Rattle.runs.specs.Moves.{Running, keptBy, RunsTo}
 use Rattle.checks.specs.declared.Answer.{Answer}
 use Rattle.checks.specs.declared.Answer.the-variants.{Value, Refusal}
 use Rattle.checks.specs.Answers.{answerOf}
-use Rattle.calls.specs.Prepared.{Askable}
+use Rattle.calls.specs.Askable.{Askable}
 
-module _ {sheet index : List ℕ} {attributes : ℕ} {question store links words forms : List ℕ} {kept budget : ℕ}
-    (a : Askable sheet index attributes question store links words forms kept budget) where
+module _ {sheet index : List ℕ} {attributes : ℕ} {question store links frames forms : List ℕ} {kept budget : ℕ}
+    (a : Askable sheet index attributes question store links frames forms kept budget) where
+  found : Passed sheet store kept question budget (a .call)
+  found = passed sheet store kept question budget (a .accepts)
+
   -- how the run ends
   abbrev whole : Ended
-  whole = runQuestion (a .of) (length store / 12) budget (a .entries) (a .expression)
+  whole = runQuestion (a .call .sheet) (length store / 12) budget (a .call .entries) (a .call .question)
 
-  begins : Invariant sheet index question attributes budget store kept whole (memoryOf store words forms) (started question kept unit)
+  begins : Invariant sheet index question attributes budget store kept whole (memoryOf store frames forms) (started question kept unit)
   begins =
-      invariant-start sheet index question attributes budget store words forms kept unit (a .of) (a .entries) (a .expression) (a .accepts) (a .index-of)
-      (a .attributes-are) (a .passes) (a .form) (a .words-size) (a .forms-size)
+      invariant-start sheet index question attributes budget store frames forms kept unit (a .call .sheet) (a .call .entries) (a .call .question)
+      (found .sheet-is) (a .index-of) (a .attributes-are) (found .entries-are) (found .question-is) (a .frames-length) (a .forms-length)
 
   module _ {first : Registers} (is : first ≡ started question kept unit) where
-    begins-at : Invariant sheet index question attributes budget store kept whole (memoryOf store words forms) first
+    begins-at : Invariant sheet index question attributes budget store kept whole (memoryOf store frames forms) first
     begins-at = rw is begins
 
-    pub runs : Running sheet index question attributes budget store links words forms first
+    pub runs : Running sheet index question attributes budget store links frames forms first
     runs =
         record {
           lent = store;
@@ -43,13 +47,13 @@ module _ {sheet index : List ℕ} {attributes : ℕ} {question store links words
           whole = whole;
           invariant = begins-at;
           linked = rw is (a .linked);
-          short = question-short (a .of) question (a .expression) (a .form);
+          short = question-short (a .call .sheet) question (a .call .question) (found .question-is);
         }
 
     -- what the run's contract says of this call
-    module _ {store′ links′ : List ℕ} (words′ forms′ : List ℕ) (r : RunEnd)
-        (ran : (lent : List ℕ) (kept : ℕ) (whole : Ended) → Invariant sheet index question attributes budget lent kept whole (memoryOf store words forms) first
-        → RunsTo sheet index question attributes budget budget lent kept whole (first .steps) (memoryOf store′ words′ forms′) r)
+    module _ {store′ links′ : List ℕ} (frames′ forms′ : List ℕ) (r : RunEnd)
+        (ran : (lent : List ℕ) (kept : ℕ) (whole : Ended) → Invariant sheet index question attributes budget lent kept whole (memoryOf store frames forms) first
+        → RunsTo sheet index question attributes budget budget lent kept whole (first .steps) (memoryOf store′ frames′ forms′) r)
         (linked : Linked store′ (keptBy r) links′) where
       -- the answer and the bytes of the store, and the store's index
       abbrev Brings : Answer → Type 0
@@ -57,12 +61,10 @@ module _ {sheet index : List ℕ} {attributes : ℕ} {question store links words
           (answerOf answer ≡ ask sheet store kept question budget .answer)
           × ((store′ ≡ ask sheet store kept question budget .store) × Linked store′ (answerOf answer .kept) links′)
 
-      ended : {ending : Ending} {m : Registers} (answer : Answer) → Final store kept whole ending (memoryOf store′ words′ forms′) m
+      ended : {ending : Ending} {m : Registers} (answer : Answer) → Final store kept whole ending (memoryOf store′ frames′ forms′) m
           → answerOf answer ≡ endedAnswer ending (m .steps) (m .kept) → Linked store′ (answerOf answer .kept) links′ → Brings answer
       ended answer final is-answer index =
-          let brings =
-          invariant-answer sheet question budget store kept (a .of) (a .entries) (a .expression) (a .accepts) (a .passes) (a .permitted) (a .form)
-          ∙ final-outcome final in
+          let brings = ask-runs sheet store kept question budget (a .accepts) ∙ final-outcome final in
           (is-answer ∙ sym (ap (λ o. o .answer) brings), (sym (ap (λ o. o .store) brings), index))
 
       pub finished : {m : Registers} → r ≡ End.Finishes m → Brings (Value (m .value) (m .steps) (m .kept))
@@ -73,6 +75,6 @@ module _ {sheet index : List ℕ} {attributes : ℕ} {question store links words
       unfolding answerOf endedAnswer keptBy
       stopped {number} {m} end = let (reason, is-number, final) = rw end at (ran store kept whole begins-at) in ended (Refusal number 0 (m .steps) (m .kept)) final (rw is-number) (rw end at linked)
 
-      -- No run pauses at its budget.
+      -- A run whose limit is its budget does not pause: it is spent there, or it ends.
       pub paused : {m : Registers} {A : Type 0} → r ≡ End.Pauses m → A
       paused end = let (_, reached, left, _) = rw end at (ran store kept whole begins-at) in absurd (omega arith)

@@ -3,17 +3,18 @@
 use checks::Answer;
 use checks::Verdict;
 use engine::Registers;
+use expressions::QuestionCheck;
 use runs::RunEnd;
-use sheets::SheetCheck;
 use specs::Value;
-use stores::StoreCheck;
 ghost use mathlib.Core.Path.{_≡_};
 ghost use Rattle.specs.specs.declared.Value.the-variants.{Unit as unit};
-ghost use Rattle.specs.specs.Ask.{ask as called};
+ghost use Rattle.specs.specs.Ask.{checkCall, ask as called};
 ghost use Rattle.stores.specs.Keys.{Linked};
 ghost use Rattle.checks.specs.Answers.{answerOf};
 ghost use Rattle.engine.specs.Loop.{started};
-ghost use Rattle.calls.specs.Prepared.{PreparedSheet, PreparedStore, Askable};
+ghost use Rattle.checks.specs.Prepared.{PreparedSheet, PreparedStore};
+ghost use Rattle.checks.specs.Verdict.{Indexes};
+ghost use Rattle.calls.specs.Askable.{Askable, RunScratch};
 
 // The registers before the first byte of a question.
 fn begin(question: &[u8], kept: usize) -> Registers
@@ -68,7 +69,7 @@ fn put<'a>(
             Answer::Value(value, m.steps, m.kept)
         }
         RunEnd::Stops(number, m) => Answer::Refusal(number, 0, m.steps, m.kept),
-        // No run pauses at its budget: it is spent there.
+        // A run that may use its whole budget does not pause (`paused`, proofs/Asking.antt), so this arm is never taken.
         RunEnd::Pauses(m) => Answer::Refusal(15, 0, m.steps, m.kept),
     }
 }
@@ -93,62 +94,29 @@ pub fn ask_checked<'a>(
     ensures { λ r. ⌜ answerOf r ≡ called (now (sheet .entry)) (now (store .entry)) kept (now (question .entry)) budget .answer ⌝ }
     ensures { λ _. ⌜ now (store .exit) ≡ called (now (sheet .entry)) (now (store .entry)) kept (now (question .entry)) budget .store ⌝ }
     ensures { λ r. ⌜ PreparedStore (now (sheet .entry)) (now (store .exit)) (answerOf r .kept) (now (links .exit)) ⌝ }
+    ensures { λ _. ⌜ RunScratch (checkCall (now (sheet .entry)) (now (store .entry)) kept (now (question .entry)) budget)
+        (now (frames .entry)) (now (forms .entry)) (now (frames .exit)) (now (forms .exit)) ⌝ }
 {
+    let words: &mut [u64] = frames;
+    let marks: &mut [u32] = forms;
     match checks::check_question(sheet, attributes, nodes, question, budget) {
-        Verdict::Refused(number, place) => checks::refuse(number, place, kept),
-        Verdict::Accepted(_, _) => put(
+        QuestionCheck::Refused(number) => checks::refuse(number, 0, kept),
+        QuestionCheck::Accepted(_) => put(
             sheet,
             index,
             attributes,
             question,
             store,
             links,
-            frames,
-            forms,
+            words,
+            marks,
             kept,
             budget,
         ),
     }
 }
 
-// A question whose sheet is accepted: the store's check, then the question.
-fn ask_store<'a>(
-    sheet: &'a [u8],
-    index: &[u32],
-    attributes: usize,
-    nodes: usize,
-    question: &'a [u8],
-    store: &mut [u8],
-    kept: usize,
-    budget: usize,
-    links: &mut [u32; 2048],
-    frames: &mut [u64; 16640],
-    forms: &mut [u32; 256],
-) -> Answer
-    requires { ⌜ PreparedSheet (now sheet) (now index) attributes nodes ⌝ }
-    ensures { λ r. ⌜ answerOf r ≡ called (now (sheet .entry)) (now (store .entry)) kept (now (question .entry)) budget .answer ⌝ }
-    ensures { λ _. ⌜ now (store .exit) ≡ called (now (sheet .entry)) (now (store .entry)) kept (now (question .entry)) budget .store ⌝ }
-{
-    match stores::check(sheet, attributes, nodes, store, kept, links) {
-        StoreCheck::Refused(number, place) => checks::refuse(number, place, kept),
-        StoreCheck::Accepted => ask_checked(
-            sheet,
-            index,
-            attributes,
-            nodes,
-            question,
-            store,
-            kept,
-            budget,
-            links,
-            frames,
-            forms,
-        ),
-    }
-}
-
-// A question call. `index`, `links`, `frames` and `forms` are scratch: nothing is asked of what they hold, and what they hold afterwards is free;
-// their lengths are in their types.
+// A question call: the checks, and then the run. `index`, `links`, `frames` and `forms` are scratch, of which nothing is asked.
 pub fn ask<'a>(
     sheet: &'a [u8],
     question: &'a [u8],
@@ -162,21 +130,25 @@ pub fn ask<'a>(
 ) -> Answer
     ensures { λ r. ⌜ answerOf r ≡ called (now (sheet .entry)) (now (store .entry)) kept (now (question .entry)) budget .answer ⌝ }
     ensures { λ _. ⌜ now (store .exit) ≡ called (now (sheet .entry)) (now (store .entry)) kept (now (question .entry)) budget .store ⌝ }
+    ensures { λ r. ⌜ Indexes (now (sheet .entry)) (now (store .exit)) (answerOf r .kept) (now (index .exit)) (now (links .exit)) ⌝ }
+    ensures { λ _. ⌜ RunScratch (checkCall (now (sheet .entry)) (now (store .entry)) kept (now (question .entry)) budget)
+        (now (frames .entry)) (now (forms .entry)) (now (frames .exit)) (now (forms .exit)) ⌝ }
 {
-    match sheets::check(sheet, index) {
-        SheetCheck::Refused(number, place) => checks::refuse(number, place, kept),
-        SheetCheck::Accepted(attributes, nodes) => ask_store(
+    let words: &mut [u64] = frames;
+    let marks: &mut [u32] = forms;
+    match checks::check(sheet, question, store, kept, budget, index, links) {
+        Verdict::Refused(number, place) => checks::refuse(number, place, kept),
+        Verdict::Accepted(attributes, _) => put(
             sheet,
             index,
             attributes,
-            nodes,
             question,
             store,
+            links,
+            words,
+            marks,
             kept,
             budget,
-            links,
-            frames,
-            forms,
         ),
     }
 }

@@ -10,7 +10,8 @@ ghost use Rattle.specs.specs.Sheet.{Sheet};
 ghost use mathlib.Core.List.{[]};
 ghost use Rattle.specs.specs.Ask.{refusal};
 ghost use Rattle.checks.specs.Answers.{answerOf};
-ghost use Rattle.checks.specs.Verdict.{onBudget, SheetOf, StoreQuestion, CallChecked};
+ghost use Rattle.checks.specs.Verdict.{SheetOf, fromBudget, FromStore, CallChecked};
+ghost use Rattle.expressions.specs.Forms.{questionOf};
 
 // What a call brings: the value with its steps and the number kept, or a refusal with its number, place, steps and the number kept.
 pub enum Answer {
@@ -18,32 +19,31 @@ pub enum Answer {
     Refusal(u32, usize, usize, usize),
 }
 
-// The number and place of the first stop, or the numbers of attributes and nodes of an accepted sheet.
+// The number and place of the first stop of 1 to 13, or the numbers of attributes and nodes of an accepted sheet.
 pub enum Verdict {
     Refused(u32, usize),
     Accepted(usize, usize),
 }
 
+// Stops 11 to 13, for a sheet of these attributes and nodes, whose types stand in its bytes.
 pub fn check_question(
     sheet: &[u8],
     attributes: usize,
     nodes: usize,
     question: &[u8],
     budget: usize,
-) -> Verdict
+) -> QuestionCheck
     requires { ⌜ 3 * attributes ≤ length (now sheet) ⌝ }
-    ensures { λ r. ⌜ ((s : Sheet) → SheetOf (now (sheet .entry)) attributes nodes s → r ≡ onBudget s (now (question .entry)) budget) ⌝ }
+    ensures { λ r. ⌜ ((s : Sheet) → SheetOf (now (sheet .entry)) attributes nodes s → r ≡ questionOf (s .attributes) (fromBudget s (now (question .entry)) budget)) ⌝ }
 {
     if 1000000 < budget {
-        return Verdict::Refused(11, 0);
+        return QuestionCheck::Refused(11);
     }
-    match expressions::check_question(sheet, attributes, nodes, question) {
-        QuestionCheck::Refused(number) => Verdict::Refused(number, 0),
-        QuestionCheck::Accepted(_) => Verdict::Accepted(attributes, nodes),
-    }
+    expressions::check_question(sheet, attributes, nodes, question)
 }
 
-fn check_store(
+// Stops 9 to 13, for such a sheet.
+fn check_from_store(
     sheet: &[u8],
     attributes: usize,
     nodes: usize,
@@ -51,14 +51,17 @@ fn check_store(
     store: &[u8],
     kept: usize,
     budget: usize,
-    links: &mut [u32; 2048],
+    links: &mut [u32],
 ) -> Verdict
-    requires { ⌜ 3 * attributes ≤ length (now sheet) ⌝ }
-    ensures { λ r. ⌜ StoreQuestion (now (sheet .entry)) attributes nodes (now (store .entry)) kept (now (question .entry)) budget (now (links .exit)) r ⌝ }
+    requires { ⌜ (3 * attributes ≤ length (now sheet)) × (length (now links) ≡ 2048) ⌝ }
+    ensures { λ r. ⌜ FromStore (now (sheet .entry)) attributes nodes (now (store .entry)) kept (now (question .entry)) budget (now (links .exit)) r ⌝ }
 {
     match stores::check(sheet, attributes, nodes, store, kept, links) {
         StoreCheck::Refused(number, place) => Verdict::Refused(number, place),
-        StoreCheck::Accepted => check_question(sheet, attributes, nodes, question, budget),
+        StoreCheck::Accepted => match check_question(sheet, attributes, nodes, question, budget) {
+            QuestionCheck::Refused(number) => Verdict::Refused(number, 0),
+            QuestionCheck::Accepted(_) => Verdict::Accepted(attributes, nodes),
+        },
     }
 }
 
@@ -74,9 +77,10 @@ pub fn check(
 ) -> Verdict
     ensures { λ r. ⌜ CallChecked (now (sheet .entry)) (now (store .entry)) kept (now (question .entry)) budget (now (index .exit)) (now (links .exit)) r ⌝ }
 {
+    let chains: &mut [u32] = links;
     match sheets::check(sheet, index) {
         SheetCheck::Refused(number, place) => Verdict::Refused(number, place),
-        SheetCheck::Accepted(attributes, nodes) => check_store(
+        SheetCheck::Accepted(attributes, nodes) => check_from_store(
             sheet,
             attributes,
             nodes,
@@ -84,7 +88,7 @@ pub fn check(
             store,
             kept,
             budget,
-            links,
+            chains,
         ),
     }
 }

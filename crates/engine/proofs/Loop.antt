@@ -9,7 +9,7 @@ use native.Mathlib.Omega.{arith}
 use lib.Dec.{ltb, leb}
 use lib.ListN.{length, take-append-drop}
 use lib.Seq.{take-length, drop-length}
-use borrow.Author.Tests.{leb-true, le-leb}
+use borrow.Author.Tests.{leb-true}
 use Rattle.specs.specs.Values.{Ty, base}
 use Rattle.specs.specs.declared.Value.{Value}
 use Rattle.specs.specs.declared.Value.the-variants.{Unit as unit}
@@ -17,7 +17,7 @@ use Rattle.specs.specs.Sheet.{Sheet, nodeCount, attributeCount, accepted, check
 use Rattle.specs.specs.Caching.{Entry, Due, State, Ending, with-value, Reason, by, Ended, dueAt}
 use Rattle.specs.specs.Store.{checkStore, entriesBytes, leftStore}
 use Rattle.specs.specs.Expressions.{Expr, Whole, no-expression, readWhole}
-use Rattle.specs.specs.Ask.{checkType, checkQuestion, asked, reasonNumber, endedAnswer, outcome, runQuestion, afterQuestion, afterStore, afterSheet, ask}
+use Rattle.specs.specs.Ask.{checkType, checkQuestion, asked, reasonNumber, endedAnswer, outcome, runQuestion}
 use Rattle.specs.proofs.Sound.{TermIn, EntryIn, All}
 use Rattle.specs.proofs.Accepted.{accepted-sheet}
 use Rattle.specs.proofs.Entries.{store-in}
@@ -255,14 +255,7 @@ module _ {sheet index question : List ℕ} {attributes budget : ℕ} {first : Li
 
 -- ---- The answer
 
--- what the call brings, of an accepted sheet, store, budget and question
-pub invariant-answer : (sheet question : List ℕ) (budget : ℕ) (store : List ℕ) (kept : ℕ) (s : Sheet) (entries : List Entry) (e : Expr)
-    → checkSheet sheet ≡ accepted s → checkStore s store kept ≡ accepted entries → budget ≤ 1000000 → checkQuestion s question ≡ accepted e
-    → ask sheet store kept question budget ≡ outcome store kept (runQuestion s (length store / 12) budget entries e)
-unfolding ask afterSheet afterStore afterQuestion
-invariant-answer sheet question budget store kept s entries e accepts passes permitted form = rw (accepts, passes, le-leb budget 1000000 permitted, form)
-
--- and what it brings, by registers and memory at the end of its run
+-- what the call brings, by registers and memory at the end of its run
 pub final-outcome : {first : List ℕ} {lent : ℕ} {whole : Ended} {ending : Ending} {mem : Memory} {m : Registers} → Final first lent whole ending mem m
     → outcome first lent whole ≡ record { answer = endedAnswer ending (m .steps) (m .kept); store = mem .store }
 unfolding outcome

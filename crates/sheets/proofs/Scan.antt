@@ -392,21 +392,22 @@ unfolding checkSheet
 long-refused bytes h = rw (lt-leb _ _ h)
 
 module _ (bytes index : List ℕ) where
-  pub long-checks : 65536 < length bytes → Checks bytes (Refused 1 0) index
+  pub long-checks : length index ≡ indexSize → 65536 < length bytes → Checks bytes (Refused 1 0) index
   unfolding checkOf
-  long-checks h =
+  long-checks size h =
       let e = long-refused bytes h in
-      record { checked = rw e; indexes = λ s f. absurd (let z : _≡_ {A = ℕ} 0 1 = cc in omega arith) }
+      record { size = size; checked = rw e; indexes = λ s f. absurd (let z : _≡_ {A = ℕ} 0 1 = cc in omega arith) }
 
   pass-is : length bytes ≤ 65536 → scanSheet bytes index ≡ scanFrom (suc (length bytes)) bytes start (clearRow 512 32768 index)
   unfolding scanSheet
   pass-is h = rw (le-leb _ _ h)
 
-  pub short-checks : (r : SheetCheck) (after : List ℕ) → length index ≡ indexSize → length bytes ≤ 65536
+  pub short-checks : (r : SheetCheck) (after : List ℕ) → length index ≡ indexSize → length after ≡ indexSize → length bytes ≤ 65536
       → scanOf r after ≡ scanFrom (suc (length bytes)) bytes start (clearRow 512 32768 index) → Checks bytes r after
-  short-checks r after size h e =
+  short-checks r after size left h e =
       let same = e ∙ sym (pass-is h) in
       record {
+        size = left;
         checked = ap (λ s. s .check) same ∙ scan-checks bytes index size;
         indexes = λ s f. subst (λ l. Indexed bytes s l) (sym (ap (λ s. s .index) same)) (scan-indexes bytes index s size f);
       }

@@ -248,8 +248,10 @@ pub record Declared (bytes index : List ℕ) (attributes n : ℕ) : Type 0 where
 abbrev pub scanOf : SheetCheck → List ℕ → Scan
 scanOf check index = record { check = check; index = index }
 
--- What the check comes to: the check of the definitions, and an index that has all that an accepted sheet says.
+-- What the check comes to: the check of the definitions, and an index that has all that an accepted sheet says. What a refused sheet leaves in the
+-- index is free; its length stays.
 pub record Checks (bytes : List ℕ) (check : SheetCheck) (index : List ℕ) : Type 0 where
+  pub size : length index ≡ indexSize
   pub checked : check ≡ checkOf (checkSheet bytes)
   pub indexes : (s : Sheet) → checkSheet bytes ≡ accepted s → Indexed bytes s index
 

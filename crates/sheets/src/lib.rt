@@ -317,10 +317,11 @@ fn read_commands(sheet: &[u8], index: &mut [u32]) -> SheetCheck
 pub fn check(sheet: &[u8], index: &mut [u32; 33280]) -> SheetCheck
     ensures { λ r. ⌜ Checks (now (sheet .entry)) r (now (index .exit)) ⌝ }
 {
+    let numbers: &mut [u32] = index;
     if 65536 < sheet.len() {
         return SheetCheck::Refused(1, 0);
     }
-    read_commands(sheet, index)
+    read_commands(sheet, numbers)
 }
 
 // The figure of a pair, by one read of the index.

@@ -1,11 +1,11 @@
 -- The numbers of the C calls: a refusal's number is never 0, and the six of an answer.
 use mathlib.Core.Bool.{Bool, true, false, cond, _&&_}
 use mathlib.Core.List.{List, [], _∷_, _++_}
-use mathlib.Core.Path.{_≡_, refl, sym, _∙_}
-use Prim.Native.Nat.{ℕ, zero, suc, _%_, _<_}
+use mathlib.Core.Path.{_≡_, refl, sym, ap, _∙_}
+use Prim.Native.Nat.{ℕ, zero, suc, _/_, _%_, _<_, min}
 use native.Mathlib.Omega.{arith}
 use lib.Dec.{leb, eqb}
-use lib.ListN.{length, take, drop}
+use lib.ListN.{length, take, drop, length-replicate}
 use lib.IntN.{ℤ}
 use Rattle.specs.specs.Sheet.{Sheet, Checked, refused, accepted, checkSheet}
 use Rattle.specs.specs.Caching.{Entry}
@@ -17,9 +17,9 @@ use Rattle.sheets.specs.Scan.{checkOf, Checks}
 use Rattle.stores.specs.declared.StoreCheck.{StoreCheck}
 use Rattle.stores.specs.declared.StoreCheck.the-variants as for-store
 use Rattle.stores.specs.Keys.{storeCheckOf, StoreChecked}
-use Rattle.calls.specs.Prepared.{PreparedSheet}
-use Rattle.calls.proofs.Preparing.{sheet-prepared, sheet-of, store-prepared}
-use Rattle.sofretu.specs.Check.{sheetFound, storeFound, StoreFound}
+use Rattle.checks.specs.Prepared.{PreparedSheet}
+use Rattle.checks.proofs.Laws.{sheet-prepared, sheet-of, attributes-fit, same-sheet}
+use Rattle.sofretu.specs.Check.{numberOf, placeOf, sheetFound, declaring, StoreFound}
 
 -- ---- The sheet
 
@@ -70,33 +70,62 @@ store-number s store kept number place = go (eqb (length store % 12) 0 && leb (l
     go true f e = omega (arith, f e)
     go false f e = let nine : number ≡ 9 = cc in omega arith
 
+-- a store that passes has number 0, and no other has
+passing : (s : Sheet) (store : List ℕ) (kept : ℕ) → numberOf (checkStore s store kept) ≡ 0 → (entries : List Entry) × (checkStore s store kept ≡ accepted entries)
+unfolding numberOf
+passing s store kept e = go (checkStore s store kept) refl e
+  where
+    go : (C : Checked (List Entry)) → checkStore s store kept ≡ C → numberOf C ≡ 0 → (entries : List Entry) × (C ≡ accepted entries)
+    go (refused n p) is z = absurd (omega (arith, store-number s store kept n p is))
+    go (accepted entries) is z = (entries, refl)
+
+-- The check of a store, put to so many of the attributes as the bytes have.
 module _ {sheet : List ℕ} {attributes nodes : ℕ} {store : List ℕ} {kept : ℕ} {links : List ℕ} {r : StoreCheck}
-    (checked : StoreChecked sheet attributes nodes store kept links r) where
+    (checked : StoreChecked sheet (min attributes (length sheet / 3)) nodes store kept links r) where
+  abbrev read : Checked (List Entry)
+  read = checkStore (declaring sheet attributes nodes) store kept
+
+  answer-is : r ≡ storeCheckOf read
+  unfolding declaring
+  answer-is = checked .answer (declaring sheet attributes nodes) refl (length-replicate nodes 0)
+
   module _ {index : List ℕ} (p : PreparedSheet sheet index attributes nodes) where
-    answer-is : r ≡ storeCheckOf (checkStore (p .of) store kept)
-    answer-is = checked .answer (p .of) (sheet-of p .attributes-are) (p .nodes-are)
+    all-stand : min attributes (length sheet / 3) ≡ attributes
+    all-stand = let fit = attributes-fit p in omega arith
+
+    of-sheet : r ≡ storeCheckOf (checkStore (p .of) store kept)
+    of-sheet = checked .answer (p .of) (rw all-stand (sheet-of p .attributes-are)) (p .nodes-are)
+
+  pub found : {number place : ℕ} → ((C : Checked (List Entry)) → r ≡ storeCheckOf C → (number ≡ numberOf C) × (place ≡ placeOf C))
+      → (number ≡ 0 → r ≡ for-store.Accepted) → StoreFound sheet attributes nodes store kept links number place
+  found {number} {place} says none =
+      record {
+        number-is = says read answer-is .0;
+        place-is = says read answer-is .1;
+        of-sheet = λ index p. says (checkStore (p .of) store kept) (of-sheet p);
+        prepared = λ index p z. record {
+          passes = λ s e. passing s store kept (sym (says (checkStore s store kept) (rw (same-sheet p s e) at (of-sheet p)) .0) ∙ z);
+          linked = checked .linked (none z);
+        };
+        links-length = checked .size;
+      }
 
   pub store-refusal : {number place : ℕ} → r ≡ for-store.Refused number place → StoreFound sheet attributes nodes store kept links number place
-  unfolding storeCheckOf storeFound
+  unfolding storeCheckOf numberOf placeOf
   store-refusal {number} {place} is =
-      record { found = λ index p. go p (checkStore (p .of) store kept) refl (answer-is p) .0; prepared = λ index p none. absurd (omega (arith, go p (checkStore (p .of) store kept) refl (answer-is p) .1)) }
+      found (says is) (λ z. let (entries, passes) = passing (declaring sheet attributes nodes) store kept (sym (says is read answer-is .0) ∙ z) in answer-is ∙ ap storeCheckOf passes)
     where
-      go : {index : List ℕ} (p : PreparedSheet sheet index attributes nodes) (C : Checked (List Entry)) → checkStore (p .of) store kept ≡ C → r ≡ storeCheckOf C
-          → (number ∷ place ∷ [] ≡ storeFound C) × (0 < number)
-      go p (refused n q) c e =
-          let same : for-store.Refused n q ≡ for-store.Refused number place = sym e ∙ is in
-          let a : number ≡ n = cc in
-          let b : place ≡ q = cc in
-          (rw (a, b), rw a (store-number (p .of) store kept n q c))
-      go p (accepted entries) c e = absurd (let z : _≡_ {A = ℕ} 0 1 = cc in omega arith)
+      says : r ≡ for-store.Refused number place → (C : Checked (List Entry)) → r ≡ storeCheckOf C → (number ≡ numberOf C) × (place ≡ placeOf C)
+      says is (refused n p) e = let same : for-store.Refused n p ≡ for-store.Refused number place = sym e ∙ is in (cc, cc)
+      says is (accepted entries) e = absurd (let z : _≡_ {A = ℕ} 0 1 = cc in omega arith)
 
   pub store-acceptance : r ≡ for-store.Accepted → StoreFound sheet attributes nodes store kept links 0 0
-  unfolding storeFound
-  store-acceptance is =
-      record {
-        found = λ index p. let (entries, passes) = store-prepared p checked is .passes (p .of) (p .accepts) in rw passes;
-        prepared = λ index p none. store-prepared p checked is;
-      }
+  unfolding storeCheckOf numberOf placeOf
+  store-acceptance is = found says (λ z. is)
+    where
+      says : (C : Checked (List Entry)) → r ≡ storeCheckOf C → (0 ≡ numberOf C) × (0 ≡ placeOf C)
+      says (refused n p) e = absurd (let z : _≡_ {A = ℕ} 0 1 = cc in omega arith)
+      says (accepted entries) e = (refl, refl)
 
 -- ---- An answer
 

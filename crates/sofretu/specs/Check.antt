@@ -1,35 +1,42 @@
 -- The numbers that the C calls bring (document 01, "Stops by origin").
 use mathlib.Core.List.{List, [], _∷_}
 use mathlib.Core.Path.{_≡_}
-use Prim.Native.Nat.{ℕ}
+use Prim.Native.Nat.{ℕ, _/_, min}
+use lib.ListN.{length, replicate}
 use Rattle.specs.specs.Sheet.{Sheet, nodeCount, attributeCount, Checked, refused, accepted}
 use Rattle.specs.specs.Caching.{Entry}
 use Rattle.specs.specs.Store.{checkStore}
-use Rattle.checks.specs.declared.Verdict.{Verdict}
-use Rattle.checks.specs.declared.Verdict.the-variants.{Refused, Accepted}
-use Rattle.calls.specs.Prepared.{PreparedSheet, PreparedStore}
+use Rattle.values.specs.Layout.{attributesIn}
+use Rattle.checks.specs.Prepared.{PreparedSheet, PreparedStore}
 
--- the number and the place of a verdict: 0 and 0 where nothing is refused
-unfoldable pub numberOf : Verdict → ℕ
-numberOf (Refused number place) = number
-numberOf (Accepted attributes nodes) = 0
+-- the number and the place of a check: 0 and 0 where nothing is refused
+unfoldable pub numberOf : {A : Type 0} → Checked A → ℕ
+numberOf (refused number place) = number
+numberOf (accepted x) = 0
 
-unfoldable pub placeOf : Verdict → ℕ
-placeOf (Refused number place) = place
-placeOf (Accepted attributes nodes) = 0
+unfoldable pub placeOf : {A : Type 0} → Checked A → ℕ
+placeOf (refused number place) = place
+placeOf (accepted x) = 0
 
 -- the number, the place, and the numbers of attributes and nodes of a sheet that is accepted
 unfoldable pub sheetFound : Checked Sheet → List ℕ
 sheetFound (refused number place) = number ∷ place ∷ 0 ∷ 0 ∷ []
 sheetFound (accepted s) = 0 ∷ 0 ∷ attributeCount s ∷ nodeCount s ∷ []
 
--- the number and the place of a store
-unfoldable pub storeFound : Checked (List Entry) → List ℕ
-storeFound (refused number place) = number ∷ place ∷ []
-storeFound (accepted entries) = 0 ∷ 0 ∷ []
+-- ---- The check of a store alone
 
--- What the check of a store brings, where the sheet was accepted and indexed with these numbers of attributes and nodes; and that a store which
--- passes is indexed.
+-- A sheet as far as the check of a store looks at it: its attributes' types stand in these bytes, and its nodes are so many. Of attributes that
+-- the bytes are too short for there are as many as stand there whole.
+unfoldable pub declaring : List ℕ → ℕ → ℕ → Sheet
+declaring bytes attributes nodes =
+    record { attributes = attributesIn bytes (min attributes (length bytes / 3)); kinds = replicate nodes 0; figures = []; rules = [] }
+
+-- What the check of a store brings, for any arguments. Of a sheet that was accepted with these numbers of attributes and nodes it is the check of
+-- document 01, and a store that passes is then indexed. The links keep their length; of a store that is refused what they hold is free.
 pub record StoreFound (sheet : List ℕ) (attributes nodes : ℕ) (store : List ℕ) (kept : ℕ) (links : List ℕ) (number place : ℕ) : Type 0 where
-  pub found : (index : List ℕ) (p : PreparedSheet sheet index attributes nodes) → number ∷ place ∷ [] ≡ storeFound (checkStore (p .of) store kept)
+  pub number-is : number ≡ numberOf (checkStore (declaring sheet attributes nodes) store kept)
+  pub place-is : place ≡ placeOf (checkStore (declaring sheet attributes nodes) store kept)
+  pub of-sheet : (index : List ℕ) (p : PreparedSheet sheet index attributes nodes)
+      → (number ≡ numberOf (checkStore (p .of) store kept)) × (place ≡ placeOf (checkStore (p .of) store kept))
   pub prepared : (index : List ℕ) → PreparedSheet sheet index attributes nodes → number ≡ 0 → PreparedStore sheet store kept links
+  pub links-length : length links ≡ 2048

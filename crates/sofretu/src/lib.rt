@@ -5,13 +5,14 @@ use sheets::SheetCheck;
 use stores::StoreCheck;
 ghost use mathlib.Core.List.{_∷_, []};
 ghost use mathlib.Core.Path.{_≡_};
-ghost use Prim.Native.Nat.{ℕ, _*_, _≤_};
+ghost use Prim.Native.Nat.{ℕ, min};
 ghost use lib.ListN.{length};
-ghost use Rattle.specs.specs.Ask.{ask};
+ghost use Rattle.specs.specs.Ask.{checkCall, ask};
 ghost use Rattle.specs.specs.Sheet.{checkSheet};
 ghost use Rattle.checks.specs.Answers.{answerOf};
-ghost use Rattle.checks.specs.Verdict.{verdict};
-ghost use Rattle.calls.specs.Prepared.{PreparedSheet, PreparedStore};
+ghost use Rattle.checks.specs.Prepared.{PreparedSheet, PreparedStore};
+ghost use Rattle.checks.specs.Verdict.{Indexes};
+ghost use Rattle.calls.specs.Askable.{RunScratch};
 ghost use Rattle.sofretu.specs.Check.{numberOf, placeOf, sheetFound, StoreFound};
 ghost use Rattle.sofretu.specs.Six.{inSigned, six};
 
@@ -26,8 +27,8 @@ pub extern "C" fn sofretu_check(
     budget: u64,
     place: &mut u64,
 ) -> u32
-    ensures { λ r. ⌜ r ≡ numberOf (verdict (now (sheet .entry)) (now (store .entry)) kept (now (question .entry)) budget) ⌝ }
-    ensures { λ _. ⌜ now (place .exit) ≡ placeOf (verdict (now (sheet .entry)) (now (store .entry)) kept (now (question .entry)) budget) ⌝ }
+    ensures { λ r. ⌜ r ≡ numberOf (checkCall (now (sheet .entry)) (now (store .entry)) kept (now (question .entry)) budget) ⌝ }
+    ensures { λ _. ⌜ now (place .exit) ≡ placeOf (checkCall (now (sheet .entry)) (now (store .entry)) kept (now (question .entry)) budget) ⌝ }
 {
     let mut index = [0u32; 33280];
     let mut links = [0u32; 2048];
@@ -90,7 +91,7 @@ fn lay(a: Answer, out: &mut [i64; 6])
     }
 }
 
-// A question call in lent scratch: nothing is asked of what the scratch holds, and nothing is said of what it holds afterwards.
+// A question call in lent scratch: nothing is asked of what the scratch holds.
 #[no_mangle]
 pub extern "C" fn sofretu_ask_in<'a>(
     sheet: &'a [u8],
@@ -106,6 +107,10 @@ pub extern "C" fn sofretu_ask_in<'a>(
 )
     ensures { λ _. ⌜ now (answer .exit) ≡ six (ask (now (sheet .entry)) (now (store .entry)) kept (now (question .entry)) budget .answer) ⌝ }
     ensures { λ _. ⌜ now (store .exit) ≡ ask (now (sheet .entry)) (now (store .entry)) kept (now (question .entry)) budget .store ⌝ }
+    ensures { λ _. ⌜ Indexes (now (sheet .entry)) (now (store .exit))
+        (ask (now (sheet .entry)) (now (store .entry)) kept (now (question .entry)) budget .answer .kept) (now (index .exit)) (now (links .exit)) ⌝ }
+    ensures { λ _. ⌜ RunScratch (checkCall (now (sheet .entry)) (now (store .entry)) kept (now (question .entry)) budget)
+        (now (frames .entry)) (now (forms .entry)) (now (frames .exit)) (now (forms .exit)) ⌝ }
 {
     let a = calls::ask(
         sheet,
@@ -163,6 +168,7 @@ pub extern "C" fn sofretu_check_sheet(
     ensures { λ r. ⌜ (r ∷ now (found .exit)) ≡ sheetFound (checkSheet (now (sheet .entry))) ⌝ }
     ensures { λ r. ⌜ ((attributes nodes : ℕ) → (r ∷ now (found .exit)) ≡ 0 ∷ 0 ∷ attributes ∷ nodes ∷ []
         → PreparedSheet (now (sheet .entry)) (now (index .exit)) attributes nodes) ⌝ }
+    ensures { λ _. ⌜ length (now (index .exit)) ≡ 33280 ⌝ }
 {
     match sheets::check(sheet, index) {
         SheetCheck::Refused(number, place) => {
@@ -176,8 +182,15 @@ pub extern "C" fn sofretu_check_sheet(
     }
 }
 
-// The check of a store for a sheet that was accepted with these numbers of attributes and nodes, which fills the store's index: 0, 9 or 10, with
-// the place in `place`.
+fn least(a: usize, b: usize) -> usize
+    ensures { λ r. ⌜ r ≡ min a b ⌝ }
+{
+    if a <= b { a } else { b }
+}
+
+// The check of a store, which fills the store's index: 0, 9 or 10, with the place in `place`. The sheet is one that was accepted with these numbers
+// of attributes and nodes; of other numbers the answer is that for a sheet of as many of these attributes as stand in its first bytes, three to
+// each, and of so many nodes.
 #[no_mangle]
 pub extern "C" fn sofretu_check_store(
     sheet: &[u8],
@@ -188,19 +201,18 @@ pub extern "C" fn sofretu_check_store(
     links: &mut [u32; 2048],
     place: &mut u64,
 ) -> u32
-    requires { ⌜ 3 * attributes ≤ length (now sheet) ⌝ }
     ensures { λ r. ⌜ StoreFound (now (sheet .entry)) attributes nodes (now (store .entry)) kept (now (links .exit)) r (now (place .exit)) ⌝ }
 {
     match stores::check(
         sheet,
-        attributes as usize,
+        least(attributes as usize, sheet.len() / 3),
         nodes as usize,
         store,
         kept as usize,
         links,
     ) {
-        StoreCheck::Refused(number, at) => {
-            *place = at as u64;
+        StoreCheck::Refused(number, entry) => {
+            *place = entry as u64;
             number
         }
         StoreCheck::Accepted => {
@@ -233,6 +245,8 @@ pub extern "C" fn sofretu_ask_checked<'a>(
     ensures { λ _. ⌜ now (store .exit) ≡ ask (now (sheet .entry)) (now (store .entry)) kept (now (question .entry)) budget .store ⌝ }
     ensures { λ _. ⌜ PreparedStore (now (sheet .entry)) (now (store .exit))
         (ask (now (sheet .entry)) (now (store .entry)) kept (now (question .entry)) budget .answer .kept) (now (links .exit)) ⌝ }
+    ensures { λ _. ⌜ RunScratch (checkCall (now (sheet .entry)) (now (store .entry)) kept (now (question .entry)) budget)
+        (now (frames .entry)) (now (forms .entry)) (now (frames .exit)) (now (forms .exit)) ⌝ }
 {
     let a = calls::ask_checked(
         sheet,

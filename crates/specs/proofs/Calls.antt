@@ -1,5 +1,6 @@
 -- Question calls on an accepted sheet, by the parts of their definition.
 use mathlib.Core.Bool.{Bool, true, false, false≢true}
+use mathlib.Core.Bool as Bool
 use mathlib.Core.List.{List, _++_}
 use mathlib.Core.Option.{Option, none, some}
 use mathlib.Core.Path.{_≡_, refl, sym, _∙_, ap}
@@ -15,7 +16,7 @@ use Rattle.specs.specs.Sheet.{Sheet, Checked, refused, accepted, checkSh
 use Rattle.specs.specs.Plain.{plainAt}
 use Rattle.specs.specs.Caching.{Entry, kept, spent, by, Ended, State}
 use Rattle.specs.specs.Store.{capacity, checkStore, leftStore}
-use Rattle.specs.specs.Ask.{refusal, ofBaseType, checkType, checkQuestion, asked, outcome, runQuestion, afterQuestion, afterStore, afterSheet, ask}
+use Rattle.specs.specs.Ask.{refusal, ofBaseType, checkType, checkQuestion, asked, outcome, runQuestion, _then-check_, checkBudget, AcceptedCall, checkCall, answered, ask}
 use Rattle.specs.specs.Calls.{Call, Lent, leaves, call}
 use Rattle.specs.proofs.Sound.{ExprIn, EntryIn, All}
 use Rattle.specs.proofs.Reading.{read-in}
@@ -56,35 +57,80 @@ module _ (s : Sheet) (cap budget : ℕ) (entries : List Entry) (e : Expr) where
       follows (context s) cap budget question-runs right (faithful-put (context s) 0 unit e) (asked e) 0
       (ap some (sym (erase-put (context s) 0 unit e))) zero-le
 
+-- ---- The checks of a call
+
+-- What the checks of an accepted call found.
+pub record Passed (sheet store : List ℕ) (k : ℕ) (question : List ℕ) (budget : ℕ) (c : AcceptedCall) : Type 0 where
+  pub sheet-is : checkSheet sheet ≡ accepted (c .sheet)
+  pub entries-are : checkStore (c .sheet) store k ≡ accepted (c .entries)
+  pub permitted : budget ≤ 1000000
+  pub question-is : checkQuestion (c .sheet) question ≡ accepted (c .question)
+
+-- a chain that accepts has an accepting first check, and goes on with what it found
+then-accepted : {A B : Type 0} (C : Checked A) (next : A → Checked B) {y : B} → (C then-check next) ≡ accepted y
+    → (x : A) × (C ≡ accepted x) × (next x ≡ accepted y)
+unfolding _then-check_
+then-accepted (refused number place) next e = absurd (let z : _≡_ {A = ℕ} 0 1 = cc in omega arith)
+then-accepted (accepted x) next e = (x, refl, e)
+
+pub budget-permitted : (budget : ℕ) {u : Unit {0}} → checkBudget budget ≡ accepted u → budget ≤ 1000000
+unfolding checkBudget
+budget-permitted budget = go (leb budget 1000000) refl
+  where
+    go : (b : Bool) → leb budget 1000000 ≡ b → {u : Unit {0}} → Bool.cond b (accepted tt) (refused 11 0) ≡ accepted u → budget ≤ 1000000
+    go true h e = leb-true budget 1000000 h
+    go false h e = absurd (let z : _≡_ {A = ℕ} 0 1 = cc in omega arith)
+
+pub passed : (sheet store : List ℕ) (k : ℕ) (question : List ℕ) (budget : ℕ) {c : AcceptedCall} → checkCall sheet store k question budget ≡ accepted c
+    → Passed sheet store k question budget c
+unfolding checkCall
+passed sheet store k question budget {c} e =
+    let (s, is-sheet, after-sheet) = then-accepted (checkSheet sheet) _ e in
+    let (entries, is-store, after-store) = then-accepted (checkStore s store k) _ after-sheet in
+    let (_, is-budget, after-budget) = then-accepted (checkBudget budget) _ after-store in
+    let (x, is-question, found) = then-accepted (checkQuestion s question) _ after-budget in
+    let call : AcceptedCall = record { sheet = s; entries = entries; question = x } in
+    let same : call ≡ c = cc in
+    let all : Passed sheet store k question budget call =
+    record { sheet-is = is-sheet; entries-are = is-store; permitted = budget-permitted budget is-budget; question-is = is-question } in
+    rw same at all
+
+-- An accepted call is answered by its run.
+pub ask-runs : (sheet store : List ℕ) (k : ℕ) (question : List ℕ) (budget : ℕ) {c : AcceptedCall} → checkCall sheet store k question budget ≡ accepted c
+    → ask sheet store k question budget ≡ outcome store k (runQuestion (c .sheet) (capacity store) budget (c .entries) (c .question))
+unfolding ask answered
+ask-runs sheet store k question budget e = rw e
+
+-- A refused one is a refusal.
+pub ask-refuses : (sheet store : List ℕ) (k : ℕ) (question : List ℕ) (budget : ℕ) {number place : ℕ}
+    → checkCall sheet store k question budget ≡ refused number place → ask sheet store k question budget ≡ refusal store k number place
+unfolding ask answered
+ask-refuses sheet store k question budget e = rw e
+
 -- ---- Calls
 
 module _ (sheet : List ℕ) (s : Sheet) (ok : checkSheet sheet ≡ accepted s) where
-  call-store : (m : Lent) (q : List ℕ) (budget : ℕ)
-      → call sheet m record { question = q; budget = budget } ≡ afterStore s (m .store) (m .kept) q budget (checkStore s (m .store) (m .kept))
-  unfolding call ask afterSheet
-  call-store m q budget = rw ok
-
   pub call-answered : (m : Lent) (entries : List Entry) (q : List ℕ) (budget : ℕ) (e : Expr) → checkStore s (m .store) (m .kept) ≡ accepted entries
       → budget ≤ 1000000 → checkQuestion s q ≡ accepted e
       → call sheet m record { question = q; budget = budget } ≡ outcome (m .store) (m .kept) (runQuestion s (capacity (m .store)) budget entries e)
-  unfolding afterStore afterQuestion
-  call-answered m entries q budget e pass permitted form = call-store m q budget ∙ rw (pass, le-leb budget 1000000 permitted, form)
+  unfolding call ask checkCall answered checkBudget _then-check_
+  call-answered m entries q budget e pass permitted form = rw (ok, pass, le-leb budget 1000000 permitted, form)
 
   pub call-over : (m : Lent) (entries : List Entry) (q : List ℕ) (budget : ℕ) → checkStore s (m .store) (m .kept) ≡ accepted entries
       → 1000000 < budget → call sheet m record { question = q; budget = budget } ≡ refusal (m .store) (m .kept) 11 0
-  unfolding afterStore
-  call-over m entries q budget pass over = call-store m q budget ∙ rw (pass, lt-leb budget 1000000 over)
+  unfolding call ask checkCall answered checkBudget _then-check_
+  call-over m entries q budget pass over = rw (ok, pass, lt-leb budget 1000000 over)
 
   pub call-malformed : (m : Lent) (entries : List Entry) (q : List ℕ) (budget number place : ℕ) → checkStore s (m .store) (m .kept) ≡ accepted entries
       → budget ≤ 1000000 → checkQuestion s q ≡ refused number place
       → call sheet m record { question = q; budget = budget } ≡ refusal (m .store) (m .kept) number place
-  unfolding afterStore afterQuestion
-  call-malformed m entries q budget number place pass permitted form = call-store m q budget ∙ rw (pass, le-leb budget 1000000 permitted, form)
+  unfolding call ask checkCall answered checkBudget _then-check_
+  call-malformed m entries q budget number place pass permitted form = rw (ok, pass, le-leb budget 1000000 permitted, form)
 
   call-refused : (m : Lent) (q : List ℕ) (budget number place : ℕ) → checkStore s (m .store) (m .kept) ≡ refused number place
       → call sheet m record { question = q; budget = budget } ≡ refusal (m .store) (m .kept) number place
-  unfolding afterStore
-  call-refused m q budget number place pass = call-store m q budget ∙ rw pass
+  unfolding call ask checkCall answered checkBudget _then-check_
+  call-refused m q budget number place pass = rw (ok, pass)
 
   -- ---- Larger budgets
 

@@ -10,13 +10,13 @@ use Rattle.specs.specs.Terms.{put}
 use Rattle.specs.specs.Plain.{Plain, steps-to, stepPart, plainAttribute, plainStep, plainAt, EndsWithValue, EndsOnNull, RunsForEver}
 use Rattle.specs.specs.Caching.{sameOccurrence, kept, isKept, write, duePart, count, condRule, keptOr, attrApp, due, dueAt, run}
 use Rattle.specs.specs.Store.{entryBytes, entryOf, isEntry, readEntries, checkStore, entriesBytes, leftStore}
-use Rattle.specs.specs.Ask.{refusal, ofBaseType, checkType, checkQuestion, asked, reasonNumber, endedAnswer, outcome, runQuestion, afterQuestion, afterStore, afterSheet, ask}
+use Rattle.specs.specs.Ask.{refusal, ofBaseType, checkType, checkQuestion, asked, reasonNumber, endedAnswer, outcome, runQuestion, _then-check_, checkBudget, checkCall, answered, ask}
 use Rattle.specs.specs.Calls.{leaves, call, afterCalls, answers}
 use Rattle.specs.specs.TableL.{bring, TableL, Plainly, PlainL}
 
 -- The definitions that a table computes with: who unfolds this one unfolds them.
 unfoldable pub definitions : Unit {0}
-unfolding baseOf functionOf functionType holdingType typeOf held truth number nodeOf equalZ applyFunction applyHolding apply ofBytes toBytes signed unsigned isWord ofWord toWord typeCode decimal sameValue headOf _followed-by_ whenever readOperand readAfter readExpr exactly readWhole sameBase sameTy given inferIf inferApplication infer hasType figureFor ruleFor ruleScope questionScope ruled figured definition wholeExpr definitionExpr context commandOf require readAttribute readNode readFigure requireRule readRule readEnd readCommand readNext isDefined gapAt gapFrom complete readCommands checkSheet put sameOccurrence kept isKept write duePart count condRule keptOr attrApp due dueAt run entryBytes entryOf isEntry readEntries checkStore entriesBytes leftStore refusal ofBaseType checkType checkQuestion asked reasonNumber endedAnswer outcome runQuestion afterQuestion afterStore afterSheet ask leaves call afterCalls answers stepPart plainAttribute plainStep plainAt EndsWithValue EndsOnNull bring
+unfolding baseOf functionOf functionType holdingType typeOf held truth number nodeOf equalZ applyFunction applyHolding apply ofBytes toBytes signed unsigned isWord ofWord toWord typeCode decimal sameValue headOf _followed-by_ whenever readOperand readAfter readExpr exactly readWhole sameBase sameTy given inferIf inferApplication infer hasType figureFor ruleFor ruleScope questionScope ruled figured definition wholeExpr definitionExpr context commandOf require readAttribute readNode readFigure requireRule readRule readEnd readCommand readNext isDefined gapAt gapFrom complete readCommands checkSheet put sameOccurrence kept isKept write duePart count condRule keptOr attrApp due dueAt run entryBytes entryOf isEntry readEntries checkStore entriesBytes leftStore refusal ofBaseType checkType checkQuestion asked reasonNumber endedAnswer outcome runQuestion _then-check_ checkBudget checkCall answered ask leaves call afterCalls answers stepPart plainAttribute plainStep plainAt EndsWithValue EndsOnNull bring
 definitions = tt
 
 pub table-L : TableL

@@ -76,22 +76,40 @@ unfoldable pub runQuestion : Sheet → ℕ → ℕ → List Entry → Expr → E
 runQuestion s capacity budget entries e =
     run (context s) capacity budget (suc (2 * budget)) record { term = asked e; entries = entries; steps = 0 }
 
--- "Order: 1, then commands .., then 8 to 13."
-unfoldable pub afterQuestion : Sheet → List ℕ → ℕ → ℕ → List Entry → Checked Expr → Outcome
-afterQuestion s store k budget entries (refused number place) = refusal store k number place
-afterQuestion s store k budget entries (accepted e) = outcome store k (runQuestion s (capacity store) budget entries e)
+-- ---- The checks of a call
 
-unfoldable pub afterStore : Sheet → List ℕ → ℕ → List ℕ → ℕ → Checked (List Entry) → Outcome
-afterStore s store k question budget (refused number place) = refusal store k number place
-afterStore s store k question budget (accepted entries) =
-    cond (leb budget 1000000)
-    (afterQuestion s store k budget entries (checkQuestion s question))
-    (refusal store k 11 0)
+-- One check after another: the first that refuses is the call's.
+infixr 20 _then-check_
+unfoldable pub _then-check_ : {A B : Type 0} → Checked A → (A → Checked B) → Checked B
+(refused number place) then-check next = refused number place
+(accepted x) then-check next = next x
 
-unfoldable pub afterSheet : List ℕ → ℕ → List ℕ → ℕ → Checked Sheet → Outcome
-afterSheet store k question budget (refused number place) = refusal store k number place
-afterSheet store k question budget (accepted s) = afterStore s store k question budget (checkStore s store k)
+-- "11 budget above 1,000,000."
+unfoldable pub checkBudget : ℕ → Checked (Unit {0})
+checkBudget budget = cond (leb budget 1000000) (accepted tt) (refused 11 0)
+
+-- A call that no check refuses: what its sheet, its kept entries and its question say.
+pub record AcceptedCall : Type 0 where
+  pub sheet : Sheet
+  pub entries : List Entry
+  pub question : Expr
+
+-- "Order: 1, then commands from the front and in each command 2 to 7, then 8 to 13." The sheet's check makes 1 to 8, the store's 9 and 10.
+unfoldable pub checkCall : List ℕ → List ℕ → ℕ → List ℕ → ℕ → Checked AcceptedCall
+checkCall sheet store k question budget =
+    checkSheet sheet then-check λ s.
+    checkStore s store k then-check λ entries.
+    checkBudget budget then-check λ _.
+    checkQuestion s question then-check λ e.
+    accepted record { sheet = s; entries = entries; question = e }
+
+-- ---- The call
+
+-- A call that is refused, or that runs.
+unfoldable pub answered : List ℕ → ℕ → ℕ → Checked AcceptedCall → Outcome
+answered store k budget (refused number place) = refusal store k number place
+answered store k budget (accepted c) = outcome store k (runQuestion (c .sheet) (capacity store) budget (c .entries) (c .question))
 
 -- The call: the sheet, the store with its kept number, the question and the budget.
 unfoldable pub ask : List ℕ → List ℕ → ℕ → List ℕ → ℕ → Outcome
-ask sheet store k question budget = afterSheet store k question budget (checkSheet sheet)
+ask sheet store k question budget = answered store k budget (checkCall sheet store k question budget)

@@ -87,10 +87,8 @@ impl<'a> Sheet<'a> {
     /// The check of a store.
     pub fn lend<'s>(&'s mut self, bytes: &'s mut [u8], kept: u64) -> Result<Store<'s, 'a>, Stop> {
         let links = &mut self.scratch.links;
-        // SAFETY: the numbers are as `Scratch::check` found them for these bytes.
-        let stop = unsafe {
-            sofretu_sys::check_store(self.bytes, self.attributes, self.nodes, bytes, kept, links)
-        };
+        let stop =
+            sofretu_sys::check_store(self.bytes, self.attributes, self.nodes, bytes, kept, links);
         match stop {
             (0, _) => Ok(Store {
                 sheet: self,

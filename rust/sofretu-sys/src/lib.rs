@@ -171,13 +171,10 @@ pub fn check_sheet(sheet: &[u8], index: &mut [u32; INDEX]) -> (u32, [u64; 3]) {
     (number, found)
 }
 
-/// The number of the first of stops 9 and 10 that holds of a store, or 0; and its place.
-///
-/// # Safety
-///
-/// `attributes` and `nodes` are as [`check_sheet`] found them when it accepted this sheet.
+/// The number of the first of stops 9 and 10 that holds of a store, or 0; and its place. `attributes` and `nodes` are as [`check_sheet`] found them
+/// when it accepted this sheet; the C header says what other numbers mean.
 #[inline]
-pub unsafe fn check_store(
+pub fn check_store(
     sheet: &[u8],
     attributes: u64,
     nodes: u64,
@@ -186,8 +183,7 @@ pub unsafe fn check_store(
     links: &mut [u32; LINKS],
 ) -> (u32, u64) {
     let mut place = 0;
-    // SAFETY: the bytes are borrowed for reading, `links` and `place` for writing. An accepted sheet has three bytes for each of
-    // its attributes, which is all that is required.
+    // SAFETY: the bytes are borrowed for reading, `links` and `place` for writing. Nothing else is required.
     let number = unsafe {
         sofretu_check_store(
             sheet.as_ptr(),

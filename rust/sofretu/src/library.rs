@@ -1,11 +1,8 @@
 //! The types that keep what the library's calls require. All of the crate's `unsafe` is here.
 //!
-//! The borrows give a call what it reads and writes. Two calls require more, and the private fields of [`Sheet`] and [`Session`] are
-//! how they get it:
-//!
-//! - `check_store` takes the number of attributes of an accepted sheet;
-//! - `ask_checked` takes the sheet's index as the sheet's check left it, and the store's index as the store's check or the question
-//!   before left it, for these same bytes and this same number kept.
+//! The borrows give a call what it reads and writes. One call requires more, and the private fields of [`Sheet`] and [`Session`] are how it gets
+//! it: `ask_checked` takes the sheet's index as the sheet's check left it, and the store's index as the store's check or the question before
+//! left it, for these same bytes and this same number kept.
 //!
 //! Two have their scratch on the stack, which is reached for before.
 #![allow(unsafe_code)]
@@ -105,17 +102,14 @@ impl<'s, 'a> Session<'s, 'a> {
     /// Checks the store against the sheet: stops 9 and 10.
     pub fn open(sheet: &'s Sheet<'a>, store: &'s mut Store) -> Result<Session<'s, 'a>, Refusal> {
         let mut links = zeros();
-        // SAFETY: `attributes` and `nodes` are as the sheet's check found them, in private fields beside the bytes.
-        let (number, place) = unsafe {
-            sofretu_sys::check_store(
-                sheet.bytes,
-                sheet.attributes,
-                sheet.nodes,
-                store.bytes(),
-                store.kept(),
-                &mut links,
-            )
-        };
+        let (number, place) = sofretu_sys::check_store(
+            sheet.bytes,
+            sheet.attributes,
+            sheet.nodes,
+            store.bytes(),
+            store.kept(),
+            &mut links,
+        );
         verdict(number, place)?;
         Ok(Session {
             sheet,

@@ -1,32 +1,66 @@
--- `calls::ask` meets its contract: the refusals of the sheet, or what follows.
-use Rattle.calls.proofs.Preparing.{refuses, sheet-refused, sheet-prepared}
+use Rattle.calls.proofs.Preparing.{refuses, refusal-keeps, scratch-as-lent, scratch-used, checked-refused, checked-accepts, checked-askable, indexes-after}
 use borrow.Author.Needs.{needs}
 use Rattle.calls.proofs.ask.Statement.{statement}
 use Rattle.calls.proofs.ask.Tie as tie
+use Rattle.calls.proofs.ask.Reads as reads
+use Rattle.calls.proofs.ask.Lts as lts
+use Rattle.calls.proofs.put.Reads as put-reads
+use Rattle.checks.proofs.check.Reads as check-reads
+use Rattle.checks.proofs.refuse.Reads as refuse-reads
 
+-- src/lib.rt:139:11
 check-requires : tie.Need-check-requires
 check-requires c κs = search needs
 
+-- src/lib.rt:140:26
 enum-known-number : tie.Need-enum-known-number
 enum-known-number c = search needs
 
+-- src/lib.rt:140:44
 refuse-requires : tie.Need-refuse-requires
 refuse-requires c κs = search needs
 
+-- src/lib.rt:141:27
 enum-known-attributes : tie.Need-enum-known-attributes
 enum-known-attributes c = search needs
 
-ask-store-requires : tie.Need-ask-store-requires
-ask-store-requires c κs = sheet-prepared (c .before .before .before .before .before .before .before .before .before .check .ensures) (c .before .before .before .before .before .before .before .attributes .given .1)
+-- src/lib.rt:141:45
+put-requires : tie.Need-put-requires
+put-requires c κs =
+    let at-put-arg = c .before .before .before in
+    let at-attributes = at-put-arg .before .before in
+    let at-check = at-attributes .before .before in
+    let at-check-arg = at-check .before .before .before in
+    checked-askable (at-check .check .ensures) (at-attributes .attributes .given .1) (search (needs, at-check-arg .before .before .words .given)) (search (needs, at-check-arg .before .marks .given))
 
-returns : tie.Need-returns
-returns c = refuses _ _ _ _ _ _ _ (c .refuse .result) (sheet-refused (c .before .before .before .before .check .ensures) _ _ _ _ (c .before .before .number .given .1)) (c .refuse .ensures)
-
+-- src/lib.rt:120:1
 same-length : tie.Need-same-length
 same-length c = search needs
 
+-- src/lib.rt:120:1
+returns : tie.Need-returns
+returns c =
+    let at-number = c .before .before in
+    let at-check = at-number .before .before in
+    let at-check-arg = at-check .before .before .before in
+    let stops = checked-refused (at-check .check .ensures) (at-number .number .given .1) in
+    let (answer, left) = refuses _ _ _ _ _ (c .refuse .result) stops (c .refuse .ensures) in
+    (answer, (left, (rw (refusal-keeps _ _ _ (c .refuse .result) (c .refuse .ensures)) (at-check .check .ensures .scratch), scratch-as-lent (search (needs, at-check-arg .before .before .words .given)) (search (needs, at-check-arg .before .marks .given)))))
+
+-- src/lib.rt:120:1
+same-length-2 : tie.Need-same-length-2
+same-length-2 c = search needs
+
+-- src/lib.rt:120:1
 returns-2 : tie.Need-returns-2
-returns-2 c = search needs
+returns-2 c =
+    let at-put = c .before .before in
+    let at-put-arg2 = at-put .before .before .before in
+    let at-attributes = at-put-arg2 .before .before .before in
+    let at-check = at-attributes .before .before in
+    let at-check-arg = at-check .before .before .before in
+    let accepts = checked-accepts (at-check .check .ensures) (at-attributes .attributes .given .1) .1 in
+    (at-put .put .ensures .0, (at-put .put .ensures .1 .0, (indexes-after (at-check .check .ensures .scratch) (at-put .put .ensures .1 .1), scratch-used accepts (search (needs, at-check-arg .before .before .words .given, at-put .put .kept .1 .1 .1 .1 .1 .1 .0)) (search (needs, at-check-arg .before .marks .given, at-put .put .kept .1 .1 .1 .1 .1 .1 .1 .0)))))
 
 pub ask-spec : {M : Type 1} → statement M
 ask-spec =
@@ -36,7 +70,8 @@ ask-spec =
     enum-known-number
     refuse-requires
     enum-known-attributes
-    ask-store-requires
-    returns
+    put-requires
     same-length
+    returns
+    same-length-2
     returns-2)

@@ -1,28 +1,24 @@
--- The laws of Laws.antt, at what the check of each part ensures.
+use Rattle.checks.proofs.Laws.{budget-refused, budget-permits}
+use Rattle.expressions.specs.Forms.{questionOf}
+use mathlib.Core.Path.{sym, ap, _∙_}
 use borrow.Author.Needs.{needs}
-use Rattle.checks.proofs.Laws.{budget-refused, question-stops, question-passes}
 use Rattle.checks.proofs.check_question.Statement.{statement}
 use Rattle.checks.proofs.check_question.Tie as tie
+use Rattle.checks.proofs.check_question.Reads as reads
+use Rattle.checks.proofs.check_question.Lts as lts
+use Rattle.expressions.proofs.check_question.Reads as check-question-reads
 
+-- src/lib.rt:40:9
 returns : tie.Need-returns
 returns c = λ s of. budget-refused s _ _ (c .if1 .taken)
 
+-- src/lib.rt:42:5
 check-question-requires : tie.Need-check-question-requires
 check-question-requires c κs = search needs
 
-enum-known-number : tie.Need-enum-known-number
-enum-known-number c = search needs
-
-enum-told : tie.Need-enum-told
-enum-told c = search needs
-
+-- src/lib.rt:29:1
 returns-2 : tie.Need-returns-2
-returns-2 c = λ s of. question-stops s of _ _ (c .before .before .before .before .if1 .left) (c .before .before .before .check-question .ensures) (c .before .number .given .1)
-
-returns-3 : tie.Need-returns-3
-returns-3 c = λ s of. question-passes s of _ _ (c .before .before .before .if1 .left) (c .before .before .check-question .ensures) (c .enum-told .given .1)
+returns-2 c = λ s of. c .check-question .ensures s (of .attributes-are) (of .nodes-count) ∙ ap (questionOf (s .attributes)) (sym (budget-permits s _ _ (c .before .if1 .left)))
 
 pub check-question-spec : {M : Type 1} → statement M
-check-question-spec =
-    tie.close
-    (tie.spec returns check-question-requires enum-known-number enum-told returns-2 returns-3)
+check-question-spec = tie.close (tie.spec returns check-question-requires returns-2)
