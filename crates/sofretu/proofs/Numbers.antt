@@ -80,17 +80,17 @@ passing s store kept e = go (checkStore s store kept) refl e
     go (accepted entries) is z = (entries, refl)
 
 -- The check of a store, put to so many of the attributes as the bytes have.
-module _ {sheet : List ℕ} {attributes nodes : ℕ} {store : List ℕ} {kept : ℕ} {links : List ℕ} {r : StoreCheck}
-    (checked : StoreChecked sheet (min attributes (length sheet / 3)) nodes store kept links r) where
+module _ {sheet : List ℕ} (attributes : ℕ) {stand nodes : ℕ} {store : List ℕ} {kept : ℕ} {links : List ℕ} {r : StoreCheck}
+    (checked : StoreChecked sheet stand nodes store kept links r) (as-many : stand ≡ min attributes (length sheet / 3)) where
   abbrev read : Checked (List Entry)
   read = checkStore (declaring sheet attributes nodes) store kept
 
   answer-is : r ≡ storeCheckOf read
   unfolding declaring
-  answer-is = checked .answer (declaring sheet attributes nodes) refl (length-replicate nodes 0)
+  answer-is = checked .answer (declaring sheet attributes nodes) (rw as-many refl) (length-replicate nodes 0)
 
   module _ {index : List ℕ} (p : PreparedSheet sheet index attributes nodes) where
-    all-stand : min attributes (length sheet / 3) ≡ attributes
+    all-stand : stand ≡ attributes
     all-stand = let fit = attributes-fit p in omega arith
 
     of-sheet : r ≡ storeCheckOf (checkStore (p .of) store kept)

@@ -1,21 +1,31 @@
--- The answer of `calls::ask_checked` is laid out as it is.
-use Rattle.sofretu.specs.Six.{six}
 use mathlib.Core.Path.{_∙_, ap}
+use Rattle.sofretu.specs.Six.{six}
 use borrow.Author.Needs.{needs}
 use Rattle.sofretu.proofs.sofretu_ask_checked.Statement.{statement}
 use Rattle.sofretu.proofs.sofretu_ask_checked.Tie as tie
+use Rattle.sofretu.proofs.sofretu_ask_checked.Reads as reads
+use Rattle.sofretu.proofs.sofretu_ask_checked.Lts as lts
+use Rattle.calls.proofs.ask_checked.Reads as ask-checked-reads
+use Rattle.sofretu.proofs.lay.Reads as lay-reads
 
+-- src/lib.rt:251:9
 ask-checked-requires : tie.Need-ask-checked-requires
 ask-checked-requires c κs = search needs
 
+-- src/lib.rt:264:5
 lay-requires : tie.Need-lay-requires
 lay-requires c κs = search needs
 
+-- src/lib.rt:227:1
 same-length : tie.Need-same-length
 same-length c = search needs
 
+-- src/lib.rt:227:1
 returns : tie.Need-returns
-returns c = (c .lay .ensures ∙ ap six (c .before .before .before .before .ask-checked .ensures .0), (c .before .before .before .before .ask-checked .ensures .1 .0, rw (c .before .before .before .before .ask-checked .ensures .0) at (c .before .before .before .before .ask-checked .ensures .1 .1)))
+returns c =
+    let at-store = c .before .before .before in
+    let answer = at-store .before .ask-checked .ensures .0 in
+    (c .lay .ensures ∙ ap six answer, (at-store .before .ask-checked .ensures .1 .0, (rw answer at (at-store .before .ask-checked .ensures .1 .1 .0), at-store .before .ask-checked .ensures .1 .1 .1)))
 
 pub sofretu-ask-checked-spec : {M : Type 1} → statement M
 sofretu-ask-checked-spec =
