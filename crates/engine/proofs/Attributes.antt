@@ -21,7 +21,7 @@ use Rattle.specs.specs.Terms.{Occurrence, val, cond, app, attr, form}
 use Rattle.specs.specs.Caching.{Entry, Running, kept, write, AttrApp, null-node, spent, depth}
 use Rattle.specs.specs.Store.{checkStore}
 use Rattle.specs.specs.Ask.{reasonNumber}
-use Rattle.specs.proofs.Sound.{IsA, ValueIn, OccurrenceIn, TermIn, val∈, cond∈, app∈, attr∈, form∈}
+use Rattle.specs.specs.Sound.{IsA, ValueIn, OccurrenceIn, TermIn, val∈, cond∈, app∈, attr∈, form∈}
 use Rattle.specs.proofs.Words.{word-in}
 use Rattle.specs.proofs.Accepted.{pair-defined}
 use Rattle.specs.proofs.Preservation.{declared, either}

@@ -15,13 +15,14 @@ use Rattle.specs.specs.declared.Value.{Value}
 use Rattle.specs.specs.declared.Value.the-variants.{Unit as unit}
 use Rattle.specs.specs.Sheet.{Sheet, nodeCount, attributeCount, accepted, checkSheet, questionScope, context}
 use Rattle.specs.specs.Caching.{Entry, Due, State, Ending, with-value, Reason, by, Ended, dueAt}
+use Rattle.specs.specs.Runs.{Runs}
 use Rattle.specs.specs.Store.{checkStore, entriesBytes, leftStore}
 use Rattle.specs.specs.Expressions.{Expr, Whole, no-expression, readWhole}
 use Rattle.specs.specs.Ask.{checkType, checkQuestion, asked, reasonNumber, endedAnswer, outcome, runQuestion, afterQuestion, afterStore, afterSheet, ask}
-use Rattle.specs.proofs.Sound.{TermIn, EntryIn, All}
+use Rattle.specs.specs.Sound.{TermIn, EntryIn, All}
 use Rattle.specs.proofs.Accepted.{accepted-sheet}
 use Rattle.specs.proofs.Entries.{store-in}
-use Rattle.specs.proofs.Ends.{Runs, counted-within}
+use Rattle.specs.proofs.Ends.{counted-within}
 use Rattle.specs.proofs.Preservation.{put-in, DueIn, due-in}
 use Rattle.specs.proofs.Calls.{question-runs, question-in}
 use Rattle.sheets.specs.Scan.{Indexed}

@@ -10,7 +10,7 @@ use Rattle.specs.specs.Types.{Attribute}
 use Rattle.specs.specs.Expressions.{Scope, Head, base-literal, function-literal, if-head, application-head, attribute-head, this-head, parameter-head, no-head, headOf}
 use Rattle.specs.specs.Sheet.{Sheet, nodeCount, questionScope}
 use Rattle.specs.specs.Caching.{Running}
-use Rattle.specs.proofs.Sound.{OccurrenceIn, TermIn}
+use Rattle.specs.specs.Sound.{OccurrenceIn, TermIn}
 use Rattle.specs.proofs.Words.{word-more}
 use Rattle.sheets.proofs.Indexed.{attribute-by-index}
 use Rattle.pieces.specs.Pieces.{restOf, Starts, headWidth}

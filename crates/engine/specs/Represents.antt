@@ -10,7 +10,7 @@ use Rattle.specs.specs.Expressions.{Expr, Scope, reads, readExpr}
 use Rattle.specs.specs.Sheet.{nodeCount, attributeCount, accepted, checkSheet}
 use Rattle.specs.specs.Caching.{Reason}
 use Rattle.specs.specs.Ask.{reasonNumber}
-use Rattle.specs.proofs.Sound.{TermIn}
+use Rattle.specs.specs.Sound.{TermIn}
 use Rattle.sheets.specs.Scan.{Indexed}
 use Rattle.frames.specs.Words.{valueIn}
 use Rattle.machine.specs.Machine.{Machine, finishes, stops, move, stateOf}

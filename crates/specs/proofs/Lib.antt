@@ -1,6 +1,5 @@
 pub mod TableL
 pub mod Misreadings
-pub mod Sound
 pub mod Words
 pub mod Same
 pub mod Inference

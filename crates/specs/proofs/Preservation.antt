@@ -16,7 +16,7 @@ use Rattle.specs.specs.Expressions.{Expr, Scope}
 use Rattle.specs.specs.Types.{Attribute, attributeAt}
 use Rattle.specs.specs.Terms.{Occurrence, put}
 use Rattle.specs.specs.Caching.{Entry, sameOccurrence, kept, isKept, write, Running, Counted, AppApp, Reason, null-node, spent, depth, Due, finished, counts, writes, halts, duePart, count, keptOr, attrApp, due, State, with-value, by, Ended, dueAt, run}
-use Rattle.specs.proofs.Sound.{IsA, ValueIn, ExprIn, literal∈, if∈, application∈, attribute∈, this∈, parameter∈, OccurrenceIn, EntryIn, All, all-none, all-cons, TermIn, val∈, cond∈, app∈, attr∈, form∈, ContextIn}
+use Rattle.specs.specs.Sound.{IsA, ValueIn, ExprIn, literal∈, if∈, application∈, attribute∈, this∈, parameter∈, OccurrenceIn, EntryIn, All, all-none, all-cons, TermIn, val∈, cond∈, app∈, attr∈, form∈, ContextIn}
 use Rattle.specs.proofs.Words.{held-in, bool-in}
 use Rattle.specs.proofs.Same.{same-occurrence}
 

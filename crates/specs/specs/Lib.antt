@@ -5,6 +5,8 @@ pub mod Sheet
 pub mod Terms
 pub mod Plain
 pub mod Caching
+pub mod Runs
+pub mod Sound
 pub mod Store
 pub mod Ask
 pub mod Calls
