@@ -15,4 +15,5 @@ pub mod Entries
 pub mod Compare
 pub mod Endings
 pub mod Calls
+pub mod Safety
 pub mod Demand3

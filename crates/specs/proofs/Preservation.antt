@@ -7,16 +7,16 @@ use mathlib.Core.List.{List, [], _∷_, _++_}
 use mathlib.Core.Path.{_≡_, refl, sym, _∙_, ap, subst}
 use Prim.Native.Nat.{ℕ, zero, suc, _<_}
 use lib.Dec.{eqb, ltb, leb}
-use lib.IntN.{ℤ}
 use lib.ListN.{length}
 use native.Mathlib.Omega.{arith}
 use borrow.Author.Tests.{ltb-true, lt-ltb}
-use Rattle.specs.specs.Values.{Base, unitT, boolT, intT, nodeT, Ty, base, _⇒_, Value, unit, bool, int, node, function, holding, Function, le, equalInt, equalNode, negation, add, subtract, Holding, leOf, equalIntOf, equalNodeOf, addTo, subtractFrom, functionType, holdingType, typeOf, null, truth, nodeOf, applyFunction, applyHolding, apply, isWord, ofWord, toWord}
+use Rattle.specs.specs.Values.{Base, boolT, nodeT, Ty, base, _⇒_, Value, unit, bool, int, node, function, holding, Function, le, equalInt, equalNode, negation, add, subtract, Holding, leOf, equalIntOf, equalNodeOf, addTo, subtractFrom, functionType, holdingType, typeOf, null, truth, nodeOf, applyFunction, applyHolding, apply, isWord, ofWord, toWord}
 use Rattle.specs.specs.Expressions.{Expr, Scope}
 use Rattle.specs.specs.Types.{Attribute, attributeAt}
 use Rattle.specs.specs.Terms.{Occurrence, put}
 use Rattle.specs.specs.Plain.{Plain, PlainStep, is-value, steps-to, on-null, stepPart, plainAttribute, plainStep, plainAt}
 use Rattle.specs.specs.Caching.{Entry, sameOccurrence, kept, isKept, write, Running, Counted, AppApp, Reason, null-node, spent, depth, Due, finished, counts, writes, halts, duePart, count, keptOr, attrApp, due, State, with-value, by, Ended, dueAt, run}
+use Rattle.specs.specs.Runs.{Reaches, at-first, by-counted, by-writing}
 use Rattle.specs.specs.Sound.{IsA, ValueIn, ExprIn, literal∈, if∈, application∈, attribute∈, this∈, parameter∈, OccurrenceIn, EntryIn, All, all-none, all-cons, TermIn, PlainIn, RunningIn, val∈, cond∈, app∈, attr∈, form∈, ContextIn}
 use Rattle.specs.proofs.Words.{held-in, bool-in}
 use Rattle.specs.proofs.Same.{same-occurrence}
@@ -27,7 +27,7 @@ use Rattle.specs.proofs.PlainFacts.{stepped}
 result-of : {B C : Base} {T U : Ty} → (B ⇒ T) ≡ (C ⇒ U) → T ≡ U
 result-of e = cc
 
-no-function {ℓ} : {A : Type ℓ} {B C : Base} {T : Ty} → base B ≡ (C ⇒ T) → A
+pub no-function {ℓ} : {A : Type ℓ} {B C : Base} {T : Ty} → base B ≡ (C ⇒ T) → A
 no-function e = absurd (let z : _≡_ {A = ℕ} 0 1 = cc in omega arith)
 
 module _ (nodes : ℕ) {B : Base} {T : Ty} (x : Value) where
@@ -60,21 +60,6 @@ apply-in nodes B T (holding f) x e h = holding-in nodes x f e
 node-in : (nodes n : ℕ) → n < nodes → IsA nodes nodeT (node n)
 unfolding isWord ofWord toWord
 node-in nodes n h = record { is-word = rw (lt-ltb n nodes h) refl; round-trip = refl }
-
--- Canonical forms: a value of a base type is of that type's form, so an accepted question never meets the other cases of `truth`,
--- `number` and `nodeOf`.
-abbrev pub Canonical : Base → Value → Type 0
-Canonical unitT v = v ≡ unit
-Canonical boolT v = (b : Bool) × (v ≡ bool b)
-Canonical intT v = (z : ℤ) × (v ≡ int z)
-Canonical nodeT v = (n : ℕ) × (v ≡ node n)
-
-pub canonical : {nodes : ℕ} (B : Base) {v : Value} → IsA nodes B v → Canonical B v
-unfolding ofWord
-canonical unitT h = sym (h .round-trip)
-canonical boolT h = (_, sym (h .round-trip))
-canonical intT h = (_, sym (h .round-trip))
-canonical nodeT h = (_, sym (h .round-trip))
 
 -- ---- Expressions
 
@@ -276,25 +261,50 @@ module _ (context : ℕ → ℕ → Expr) (capacity budget : ℕ) where
       go (writes w t) e = rw (e, run) (h w t e)
       go (halts r) e = rw (e, run) (i r e)
 
+-- A state whose entries and expression are of their types, and an end whose entries and value are.
+pub record StateIn (nodes : ℕ) (sig : List Attribute) (T : Ty) (st : State) : Type 0 where
+  pub entries-in : All (EntryIn nodes sig) (st .entries)
+  pub term-in : RunningIn nodes sig (st .term) T
+
 pub record EndedIn (nodes : ℕ) (sig : List Attribute) (T : Ty) (end : Ended) : Type 0 where
   pub entries-in : All (EntryIn nodes sig) (end .entries)
   pub value-in : (v : Value) → end .ending ≡ with-value v → ValueIn nodes T v
 
 module _ (nodes : ℕ) (sig : List Attribute) (context : ℕ → ℕ → Expr) (c : ContextIn nodes sig context) (capacity budget : ℕ) (T : Ty) where
+  due-at-in : (st : State) → StateIn nodes sig T st → {d : Due} → dueAt context capacity budget st ≡ d → DueIn nodes sig T d
+  unfolding dueAt
+  due-at-in st h e =
+      subst (DueIn nodes sig T) e (due-in nodes sig context c (st .entries) (h .entries-in) (ltb (st .steps) budget) [] (st .term) T (h .term-in))
+
+  counted-in : (st : State) → StateIn nodes sig T st → {r : Counted} {t : Running} → dueAt context capacity budget st ≡ counts r t
+      → StateIn nodes sig T record { term = t; entries = st .entries; steps = suc (st .steps) }
+  counted-in st h e = record { entries-in = h .entries-in; term-in = due-at-in st h e }
+
+  writing-in : (st : State) → StateIn nodes sig T st → {n : Entry} {t : Running} → dueAt context capacity budget st ≡ writes n t
+      → StateIn nodes sig T record { term = t; entries = write capacity (st .entries) n; steps = st .steps }
+  writing-in st h e = record { entries-in = write-in capacity (h .entries-in) (due-at-in st h e .0); term-in = due-at-in st h e .1 }
+
+  -- every state that a run comes to
+  pub reaches-in : {first st : State} → Reaches context capacity budget first st → StateIn nodes sig T first → StateIn nodes sig T st
+  reaches-in at-first h = h
+  reaches-in (by-counted {st} before e) h = counted-in st (reaches-in before h) e
+  reaches-in (by-writing {st} before e) h = writing-in st (reaches-in before h) e
+
   stopped-in : (r : Reason) (s : List Entry) (n : ℕ) → All (EntryIn nodes sig) s
       → EndedIn nodes sig T record { ending = by r; entries = s; steps = n }
   stopped-in r s n h = record { entries-in = h; value-in = λ v e. absurd (let z : _≡_ {A = ℕ} 0 1 = cc in omega arith) }
 
+  -- and its end
   pub run-in : (k : ℕ) (st : State) → All (EntryIn nodes sig) (st .entries) → RunningIn nodes sig (st .term) T
       → EndedIn nodes sig T (run context capacity budget k st)
-  unfolding run dueAt
+  unfolding run
   run-in zero st hs ht = stopped-in spent (st .entries) (st .steps) hs
   run-in (suc k) st hs ht =
       run-case context capacity budget (EndedIn nodes sig T) k st
-      (λ v e. record { entries-in = hs; value-in = λ w q. let same : v ≡ w = cc in subst (ValueIn nodes T) same (is-due e) })
-      (λ r t e. run-in k _ hs (is-due e))
-      (λ w t e. run-in k _ (write-in capacity hs (is-due e .0)) (is-due e .1))
+      (λ v e. record { entries-in = hs; value-in = λ w q. let same : v ≡ w = cc in subst (ValueIn nodes T) same (due-at-in st h e) })
+      (λ r t e. let n = counted-in st h e in run-in k _ (n .entries-in) (n .term-in))
+      (λ w t e. let n = writing-in st h e in run-in k _ (n .entries-in) (n .term-in))
       (λ r e. stopped-in r (st .entries) (st .steps) hs)
     where
-      is-due : {d : Due} → dueAt context capacity budget st ≡ d → DueIn nodes sig T d
-      is-due e = subst (DueIn nodes sig T) e (due-in nodes sig context c (st .entries) hs (ltb (st .steps) budget) [] (st .term) T ht)
+      h : StateIn nodes sig T st
+      h = record { entries-in = hs; term-in = ht }

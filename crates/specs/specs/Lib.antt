@@ -9,6 +9,7 @@ pub mod Runs
 pub mod Sound
 pub mod Store
 pub mod Ask
+pub mod Safety
 pub mod Calls
 pub mod Demand3
 pub mod TableL
