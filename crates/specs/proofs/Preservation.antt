@@ -10,7 +10,7 @@ use lib.Dec.{eqb, ltb, leb}
 use lib.ListN.{length}
 use native.Mathlib.Omega.{arith}
 use borrow.Author.Tests.{ltb-true, lt-ltb}
-use Rattle.specs.specs.Values.{Base, boolT, nodeT, Ty, base, _⇒_, Value, unit, bool, int, node, function, holding, Function, le, equalInt, equalNode, negation, add, subtract, Holding, leOf, equalIntOf, equalNodeOf, addTo, subtractFrom, functionType, holdingType, typeOf, null, truth, nodeOf, applyFunction, applyHolding, apply, isWord, ofWord, toWord}
+use Rattle.specs.specs.Values.{Base, nodeT, Ty, base, _⇒_, Value, unit, bool, int, node, function, holding, Function, le, equalInt, equalNode, negation, add, subtract, Holding, leOf, equalIntOf, equalNodeOf, addTo, subtractFrom, functionType, holdingType, typeOf, null, truth, nodeOf, applyFunction, applyHolding, apply, isWord, ofWord, toWord}
 use Rattle.specs.specs.Expressions.{Expr, Scope}
 use Rattle.specs.specs.Types.{Attribute, attributeAt}
 use Rattle.specs.specs.Terms.{Occurrence, put}

@@ -1,6 +1,6 @@
 -- Type safety holds: preservation, and the forms of the values of each type.
 use mathlib.Core.Bool.{Bool, true, false, false≢true}
-use mathlib.Core.List.{List, []}
+use mathlib.Core.List.{List}
 use mathlib.Core.Option.{Option, none, some}
 use mathlib.Core.Path.{_≡_, refl, sym}
 use Prim.Native.Nat.{ℕ, _<_}
@@ -9,16 +9,14 @@ use lib.ListN.{getD}
 use borrow.Author.Tests.{eqb-true}
 use Rattle.specs.specs.Values.{Base, unitT, boolT, intT, nodeT, Ty, base, _⇒_, Value, unit, bool, int, node, function, holding, typeOf, null, nodeOf, ofWord}
 use Rattle.specs.specs.Expressions.{Expr, Scope}
-use Rattle.specs.specs.Types.{Attribute, attributeAt, Typed, infer}
+use Rattle.specs.specs.Types.{Attribute, attributeAt, Typed}
 use Rattle.specs.specs.Types as Types
 use Rattle.specs.specs.Sheet.{Sheet, nodeCount, attributeCount, figureFor, ruleFor, ruled, figured, definition, isDefined, context, accepted, checkSheet, questionScope}
 use Rattle.specs.specs.Terms.{Term, val, cond, app, attr, form}
-use Rattle.specs.specs.Caching.{Entry, State}
-use Rattle.specs.specs.Runs.{Reaches, at-first, by-counted, by-writing}
-use Rattle.specs.specs.Sound.{IsA, ValueIn, ExprIn, literal∈, if∈, application∈, attribute∈, this∈, parameter∈, EntryIn, All, TermIn, RunningIn, val∈, cond∈, app∈, attr∈, form∈}
-use Rattle.specs.specs.Store.{capacity, checkStore}
-use Rattle.specs.specs.Ask.{asked, checkQuestion}
-use Rattle.specs.specs.Safety.{Canonical, Takes, takes-first, takes-second, InForce, RuleDue, cond-left, cond-bool, app-left, app-right, app-app, attr-left, attr-right, attr-null, attr-app, cache-left, cache-write, Progress, at-value, at-rule, SafeState, TypeSafety}
+use Rattle.specs.specs.Sound.{IsA, ValueIn, ExprIn, literal∈, if∈, application∈, attribute∈, this∈, parameter∈, TermIn, val∈, cond∈, app∈, attr∈, form∈}
+use Rattle.specs.specs.Store.{capacity}
+use Rattle.specs.specs.Ask.{asked}
+use Rattle.specs.specs.Safety.{Canonical, Takes, takes-first, takes-second, InForce, RuleDue, cond-left, cond-bool, app-left, app-right, app-app, attr-left, attr-right, attr-null, attr-app, cache-left, cache-write, Progress, at-value, at-rule, TypeSafety}
 use Rattle.specs.proofs.Words.{in-type}
 use Rattle.specs.proofs.Inference.{infer-complete}
 use Rattle.specs.proofs.Accepted.{accepted-sheet, rule-reads, pair-defined}
