@@ -21,7 +21,7 @@ use Rattle.specs.specs.Terms.{Occurrence, val, cond, app, attr, form}
 use Rattle.specs.specs.Caching.{Entry, Running, kept, write, AttrApp, null-node, spent, depth}
 use Rattle.specs.specs.Store.{checkStore}
 use Rattle.specs.specs.Ask.{reasonNumber}
-use Rattle.specs.proofs.Sound.{IsA, ValueIn, OccurrenceIn, TermIn, val∈, cond∈, app∈, attr∈, form∈}
+use Rattle.specs.specs.Sound.{IsA, ValueIn, OccurrenceIn, RunningIn, val∈, cond∈, app∈, attr∈, form∈}
 use Rattle.specs.proofs.Words.{word-in}
 use Rattle.specs.proofs.Accepted.{pair-defined}
 use Rattle.specs.proofs.Preservation.{declared, either}
@@ -45,25 +45,25 @@ use Rattle.engine.proofs.Writing.{keyOf, ByKey, Written, cache-write}
 
 module _ {nodes : ℕ} {sig : List Attribute} where
   -- what a rule of the types says of the parts
-  val-in : {v : Value} {T : Ty} → TermIn nodes sig (val v) T → ValueIn nodes T v
+  val-in : {v : Value} {T : Ty} → RunningIn nodes sig (val v) T → ValueIn nodes T v
   val-in (val∈ h) = h
 
-  cond-in : {c t e : Running} {T : Ty} → TermIn nodes sig (cond c t e) T → (U : Ty) × TermIn nodes sig c U
+  cond-in : {c t e : Running} {T : Ty} → RunningIn nodes sig (cond c t e) T → (U : Ty) × RunningIn nodes sig c U
   cond-in (cond∈ c t e) = (base boolT, c)
 
-  app-in : {f x : Running} {T : Ty} → TermIn nodes sig (app f x) T → ((U : Ty) × TermIn nodes sig f U) × ((U : Ty) × TermIn nodes sig x U)
+  app-in : {f x : Running} {T : Ty} → RunningIn nodes sig (app f x) T → ((U : Ty) × RunningIn nodes sig f U) × ((U : Ty) × RunningIn nodes sig x U)
   app-in (app∈ {B = B} {T = T} f x) = ((B ⇒ T, f), (base B, x))
 
-  attr-in : {n x : Running} {a : ℕ} {T : Ty} → TermIn nodes sig (attr n a x) T
-      → (a < length sig) × TermIn nodes sig n (base nodeT) × TermIn nodes sig x (base (attributeAt sig a .parameter-type))
+  attr-in : {n x : Running} {a : ℕ} {T : Ty} → RunningIn nodes sig (attr n a x) T
+      → (a < length sig) × RunningIn nodes sig n (base nodeT) × RunningIn nodes sig x (base (attributeAt sig a .parameter-type))
   attr-in (attr∈ a n x) = (a, n, x)
 
-  pub form-in : {o : Occurrence} {e : Running} {T : Ty} → TermIn nodes sig (form o e) T
-      → OccurrenceIn nodes sig o × TermIn nodes sig e (base (attributeAt sig (o .attribute) .result))
-  form-in (form∈ o e) = (o, e)
+  pub form-in : {o : Occurrence} {e : Running} {T : Ty} → RunningIn nodes sig (form o e) T
+      → OccurrenceIn nodes sig o × RunningIn nodes sig e (base (attributeAt sig (o .attribute) .result))
+  form-in (form∈ o e) = (o .0, rw (o .1) at e)
 
   -- A part of what is of a type is of a type.
-  pub plug-in : (s : Sheet) (fs : List Frame) (t : Running) (l : List ℕ) {T : Ty} → TermIn nodes sig (plug s fs t l) T → (U : Ty) × TermIn nodes sig t U
+  pub plug-in : (s : Sheet) (fs : List Frame) (t : Running) (l : List ℕ) {T : Ty} → RunningIn nodes sig (plug s fs t l) T → (U : Ty) × RunningIn nodes sig t U
   unfolding plug
   plug-in s [] t l {T} h = (T, h)
   plug-in s (on-if ∷ fs) t l h = cond-in (plug-in s fs _ _ h .1)
@@ -249,7 +249,7 @@ module _ {sheet index question : List ℕ} {attributes : ℕ} {mem : Memory} {m 
   unfolding machineOf entriesOf
   entries-are = rw (r .holds .stored)
 
-  value-typed : (fs : List Frame) → M .frames ≡ fs → TermIn (nodeCount s) (s .attributes) (plug s fs (val (m .value)) (M .rest)) (base (r .type))
+  value-typed : (fs : List Frame) → M .frames ≡ fs → RunningIn (nodeCount s) (s .attributes) (plug s fs (val (m .value)) (M .rest)) (base (r .type))
   unfolding stateOf termOf
   value-typed fs e = rw (mode-is, e) at (r .typed)
 

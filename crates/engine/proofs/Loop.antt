@@ -15,13 +15,14 @@ use Rattle.specs.specs.declared.Value.{Value}
 use Rattle.specs.specs.declared.Value.the-variants.{Unit as unit}
 use Rattle.specs.specs.Sheet.{Sheet, nodeCount, attributeCount, accepted, checkSheet, questionScope, context}
 use Rattle.specs.specs.Caching.{Entry, Due, State, Ending, with-value, Reason, by, Ended, dueAt}
+use Rattle.specs.specs.Runs.{Runs}
 use Rattle.specs.specs.Store.{checkStore, entriesBytes, leftStore}
 use Rattle.specs.specs.Expressions.{Expr, Whole, no-expression, readWhole}
 use Rattle.specs.specs.Ask.{checkType, checkQuestion, asked, reasonNumber, endedAnswer, outcome, runQuestion}
-use Rattle.specs.proofs.Sound.{TermIn, EntryIn, All}
+use Rattle.specs.specs.Sound.{RunningIn, EntryIn, All}
 use Rattle.specs.proofs.Accepted.{accepted-sheet}
 use Rattle.specs.proofs.Entries.{store-in}
-use Rattle.specs.proofs.Ends.{Runs, counted-within}
+use Rattle.specs.proofs.Ends.{counted-within}
 use Rattle.specs.proofs.Preservation.{put-in, DueIn, due-in}
 use Rattle.specs.proofs.Calls.{question-runs, question-in}
 use Rattle.sheets.specs.Scan.{Indexed}
@@ -130,7 +131,7 @@ invariant-start sheet index question attributes budget store words forms kept an
 module _ (s : Sheet) (bytes : List ℕ) (ok : checkSheet bytes ≡ accepted s) (capacity budget : ℕ) (T : Ty) where
   -- a state of a type, whose entries are of theirs
   abbrev Typed : State → Type 0
-  Typed st = All (EntryIn (nodeCount s) (s .attributes)) (st .entries) × TermIn (nodeCount s) (s .attributes) (st .term) T
+  Typed st = All (EntryIn (nodeCount s) (s .attributes)) (st .entries) × RunningIn (nodeCount s) (s .attributes) (st .term) T
 
   is-due : (st : State) → Typed st → {d : Due} → dueAt (context s) capacity budget st ≡ d → DueIn (nodeCount s) (s .attributes) T d
   unfolding dueAt
@@ -139,12 +140,12 @@ module _ (s : Sheet) (bytes : List ℕ) (ok : checkSheet bytes ≡ accepted s) (
       (due-in (nodeCount s) (s .attributes) (context s) (accepted-sheet bytes s ok .context-in) (st .entries) all (ltb (st .steps) budget) [] (st .term) T t)
 
   uncounted-in : (st st′ : State) → Typed st → Uncounted s capacity budget st st′
-      → TermIn (nodeCount s) (s .attributes) (st′ .term) T × (st′ .steps ≡ st .steps)
+      → RunningIn (nodeCount s) (s .attributes) (st′ .term) T × (st′ .steps ≡ st .steps)
   uncounted-in st st′ t (same is) = rw is (t .1, refl)
   uncounted-in st st′ t (written e u d is) = rw is (is-due st t d .1, refl)
 
   next-in : (M M′ : Machine) → Good s M → Typed (stateOf s M) → M .steps ≤ budget → Next s capacity budget M M′
-      → TermIn (nodeCount s) (s .attributes) (stateOf s M′ .term) T × (M′ .steps ≤ budget)
+      → RunningIn (nodeCount s) (s .attributes) (stateOf s M′ .term) T × (M′ .steps ≤ budget)
   unfolding stateOf
   next-in M M′ good t within (by-move e) =
       let (u, f) = uncounted-in (stateOf s M) (stateOf s M′) t (rw e at (simulates s capacity budget (pieces bytes s ok) M good)) in

@@ -10,7 +10,7 @@ use Rattle.specs.specs.Types.{Attribute}
 use Rattle.specs.specs.Expressions.{Scope, Head, base-literal, function-literal, if-head, application-head, attribute-head, this-head, parameter-head, no-head, headOf}
 use Rattle.specs.specs.Sheet.{Sheet, nodeCount, questionScope}
 use Rattle.specs.specs.Caching.{Running}
-use Rattle.specs.proofs.Sound.{OccurrenceIn, TermIn}
+use Rattle.specs.specs.Sound.{OccurrenceIn, RunningIn}
 use Rattle.specs.proofs.Words.{word-more}
 use Rattle.sheets.proofs.Indexed.{attribute-by-index}
 use Rattle.pieces.specs.Pieces.{restOf, Starts, headWidth}
@@ -29,7 +29,7 @@ use Rattle.engine.proofs.Attributes.{plug-in, form-in}
 
 -- the occurrence whose definition is running, of what is of a type
 innermost-in : {nodes : ℕ} {sig : List Attribute} (s : Sheet) (fs : List Frame) (t : Running) (l : List ℕ) {T : Ty} → 0 < length (openForms fs)
-    → TermIn nodes sig (plug s fs t l) T → OccurrenceIn nodes sig (innermost (openForms fs))
+    → RunningIn nodes sig (plug s fs t l) T → OccurrenceIn nodes sig (innermost (openForms fs))
 unfolding plug openForms innermost
 innermost-in s [] t l some h = absurd (omega arith)
 innermost-in s (on-if ∷ fs) t l some h = innermost-in s fs _ _ some h
@@ -86,7 +86,7 @@ module _ {sheet index question : List ℕ} {attributes : ℕ} {mem : Memory} {m 
   unfolding machineOf modeOf
   good = rw evaluates at (r .good)
 
-  typed : TermIn (nodeCount s) (s .attributes) (plug s frames (termAt s frames bytes) (restAt s frames bytes)) (base (r .type))
+  typed : RunningIn (nodeCount s) (s .attributes) (plug s frames (termAt s frames bytes) (restAt s frames bytes)) (base (r .type))
   unfolding machineOf modeOf stateOf termOf
   typed = rw evaluates at (r .typed)
 

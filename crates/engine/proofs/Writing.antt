@@ -16,7 +16,7 @@ use Rattle.specs.specs.Sheet.{Sheet, nodeCount, accepted}
 use Rattle.specs.specs.Terms.{Occurrence}
 use Rattle.specs.specs.Caching.{Entry, kept, isKept, write}
 use Rattle.specs.specs.Store.{entryBytes, checkStore, entriesBytes, leftStore}
-use Rattle.specs.proofs.Sound.{IsA, OccurrenceIn, EntryIn, all-none, all-cons}
+use Rattle.specs.specs.Sound.{IsA, OccurrenceIn, EntryIn, all-none, all-cons}
 use Rattle.specs.proofs.Keeping.{write-full}
 use Rattle.specs.proofs.Entries.{store-in, left-length, left-passes}
 use Rattle.stores.specs.Keys.{Key, findKey}

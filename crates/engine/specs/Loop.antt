@@ -8,7 +8,7 @@ use Rattle.specs.specs.declared.Value.{Value}
 use Rattle.specs.specs.Sheet.{context}
 use Rattle.specs.specs.Caching.{Ending, Ended}
 use Rattle.specs.specs.Store.{leftStore}
-use Rattle.specs.proofs.Ends.{Runs}
+use Rattle.specs.specs.Runs.{Runs}
 use Rattle.machine.specs.Machine.{stateOf}
 use Rattle.engine.specs.Decode.{sheetOf}
 use Rattle.engine.specs.Steps.{Memory}

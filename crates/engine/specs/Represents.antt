@@ -10,7 +10,7 @@ use Rattle.specs.specs.Expressions.{Expr, Scope, reads, readExpr}
 use Rattle.specs.specs.Sheet.{nodeCount, attributeCount, accepted, checkSheet}
 use Rattle.specs.specs.Caching.{Reason}
 use Rattle.specs.specs.Ask.{reasonNumber}
-use Rattle.specs.proofs.Sound.{TermIn}
+use Rattle.specs.specs.Sound.{RunningIn}
 use Rattle.sheets.specs.Scan.{Indexed}
 use Rattle.frames.specs.Words.{valueIn}
 use Rattle.machine.specs.Machine.{Machine, finishes, stops, move, stateOf}
@@ -36,7 +36,7 @@ pub record Represents (sheet index question : List ℕ) (attributes : ℕ) (mem 
   pub good : Good (sheetOf sheet) (machineIn sheet question mem m)
   pub small : Small (machineIn sheet question mem m)
   pub type : Base
-  pub typed : TermIn (nodeCount (sheetOf sheet)) (sheetOf sheet .attributes) (stateOf (sheetOf sheet) (machineIn sheet question mem m) .term) (base type)
+  pub typed : RunningIn (nodeCount (sheetOf sheet)) (sheetOf sheet .attributes) (stateOf (sheetOf sheet) (machineIn sheet question mem m) .term) (base type)
 
 -- What a move of the code comes to, for a machine M at a budget and a limit.
 module _ (sheet question : List ℕ) (capacity budget limit : ℕ) (m : Registers) (M : Machine) where

@@ -14,7 +14,7 @@ use Rattle.specs.specs.Expressions.{Expr, Head, base-literal, function-literal,
 use Rattle.specs.specs.Sheet.{Sheet, Definition, undefined, figure, piece-of, definition, wholeExpr, definitionExpr, context}
 use Rattle.specs.specs.Terms.{Occurrence, val, cond, app, attr, form, put}
 use Rattle.specs.specs.Caching.{Entry, Running, kept, write, Counted, CondTrue, CondFalse, AppApp, AttrApp, null-node, spent, depth, Due, finished, counts, writes, halts, duePart, count, condRule, keptOr, attrApp, due, State, with-value, by, Ended, dueAt}
-use Rattle.specs.proofs.Ends.{Runs, ends-value, ends-by, goes-counted, goes-writing}
+use Rattle.specs.specs.Runs.{Runs, ends-value, ends-by, goes-counted, goes-writing}
 use Rattle.specs.proofs.Keeping.{write-kept}
 use Rattle.machine.specs.Machine.{Frame, on-if, on-left, on-skip, on-right, on-node, on-parameter, on-form, Mode, evaluating, returning, Machine, openForms, innermost, scopeIn, plug, termOf, stateOf, Move, finishes, moves, takes, stops, readHead, within, branch, defined, applied, attributeDue, give, readNext, moveOf, move}
 use Rattle.machine.specs.Good.{Pieces, Ready, Good}

@@ -15,7 +15,7 @@ use Rattle.specs.specs.Values.{base, Value, ofBytes, isWord}
 use Rattle.specs.specs.Expressions.{Expr, Whole, no-expression, expression, readWhole}
 use Rattle.specs.specs.Types.{attributeAt}
 use Rattle.specs.specs.Sheet.{Figure, Rule, Sheet, emptySheet, nodeCount, attributeCount, figureFor, ruleFor, ruleScope, Definition, undefined, figure, piece-of, ruled, figured, definition, wholeExpr, definitionExpr, context, Command, attribute-command, node-command, figure-command, rule-command, end-command, no-command, commandOf, Read, stops, ends, goes-on, require, readAttribute, readNode, readFigure, requireRule, readRule, readEnd, readCommand, readNext, Checked, refused, accepted, isDefined, gapAt, gapFrom, complete, readCommands, checkSheet}
-use Rattle.specs.proofs.Sound.{ExprIn, literal∈, All, all-none, all-cons, ContextIn}
+use Rattle.specs.specs.Sound.{ExprIn, literal∈, All, all-none, all-cons, ContextIn}
 use Rattle.specs.proofs.Words.{word-in}
 use Rattle.specs.proofs.Inference.{hasType-sound}
 use Rattle.specs.proofs.Reading.{read-in}

@@ -18,13 +18,14 @@ use Rattle.specs.specs.Caching.{Entry, kept, spent, by, Ended, State}
 use Rattle.specs.specs.Store.{capacity, checkStore, leftStore}
 use Rattle.specs.specs.Ask.{refusal, ofBaseType, checkType, checkQuestion, asked, outcome, runQuestion, _then-check_, checkBudget, AcceptedCall, checkCall, answered, ask}
 use Rattle.specs.specs.Calls.{Call, Lent, leaves, call}
-use Rattle.specs.proofs.Sound.{ExprIn, EntryIn, All}
+use Rattle.specs.specs.Sound.{ExprIn, EntryIn, All}
 use Rattle.specs.proofs.Reading.{read-in}
 use Rattle.specs.proofs.Accepted.{accepted-sheet}
 use Rattle.specs.proofs.Preservation.{put-in, EndedIn, run-in, all-right}
 use Rattle.specs.proofs.Entries.{Appended, run-appends, store-in, left-passes, left-length}
 use Rattle.specs.proofs.Erasure.{Right, faithful-put, erase-put}
-use Rattle.specs.proofs.Ends.{Runs, measure, forms-put, run-ends, run-is}
+use Rattle.specs.specs.Runs.{Runs}
+use Rattle.specs.proofs.Ends.{measure, forms-put, run-ends, run-is}
 use Rattle.specs.proofs.Compare.{Follows, follows, larger-budget}
 use Rattle.specs.proofs.Endings.{kept-field, spent-number}
 

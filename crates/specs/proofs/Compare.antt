@@ -16,8 +16,9 @@ use Rattle.specs.specs.Expressions.{Expr}
 use Rattle.specs.specs.Terms.{Occurrence, val, cond, app, attr, form}
 use Rattle.specs.specs.Plain.{Plain, on-null, plainStep, plainAt}
 use Rattle.specs.specs.Caching.{Entry, Running, Due, finished, counts, writes, halts, Reason, null-node, spent, depth, duePart, count, attrApp, due, State, Ending, with-value, by, Ended, dueAt}
+use Rattle.specs.specs.Runs.{Runs, ends-value, ends-by, goes-counted, goes-writing}
 use Rattle.specs.proofs.Erasure.{erase, Right, Faithful, Seen, comes-on, step-first}
-use Rattle.specs.proofs.Ends.{Runs, ends-value, ends-by, goes-counted, goes-writing, spent-used}
+use Rattle.specs.proofs.Ends.{spent-used}
 use Rattle.specs.proofs.Keeping.{seen-at, right-write}
 
 module _ (context : ℕ → ℕ → Expr) where

@@ -4,7 +4,7 @@ use mathlib.Core.Logic.{inl, inr}
 use mathlib.Core.List.{List, [], _∷_, _++_}
 use mathlib.Core.Option.{Option·none-ne-some}
 use mathlib.Core.Path.{_≡_, refl, _∙_, ap}
-use Prim.Native.Nat.{ℕ, _%_, _≤_}
+use Prim.Native.Nat.{ℕ, _/_, _%_, _≤_}
 use native.Mathlib.Omega.{arith}
 use borrow.Author.Tests.{le-leb, eq-eqb, leb-true, leb-false}
 use lib.Dec.{leb, leb·zero}
@@ -16,20 +16,18 @@ use Rattle.specs.specs.Caching.{Entry, kept}
 use Rattle.specs.specs.Store.{capacity, checkStore, readEntries}
 use Rattle.specs.specs.Ask.{refusal, checkQuestion, asked, outcome, runQuestion}
 use Rattle.specs.specs.Calls.{Call, Lent, leaves, call, afterCalls, answers}
-use Rattle.specs.specs.Demand3.{HasEnding, First, Demand3}
+use Rattle.specs.specs.Demand3.{PlainEnding, PlainEnds, Brings, HasEnding, First, at-place, OfSheet, Demand3}
 use Rattle.specs.proofs.Keeping.{right-run}
 use Rattle.specs.proofs.Larger.{Nested, alike, larger, Brings as RunBrings}
 use Rattle.specs.proofs.Erasure.{Right, faithful-put}
-use Prim.Native.Nat.{_/_}
-use Rattle.specs.proofs.Endings.{endedAs, same-ending, sound-ending, complete-ending}
+use Rattle.specs.proofs.Endings.{endedAs, same-ending, sound-ending, never-both, complete-ending}
 use Rattle.specs.proofs.Calls.{question-runs, question-follows, call-answered, call-over, call-malformed, budgets-agree, Passes, question-leaves, call-cases}
 
 -- ---- Lists
 
--- What stands after a place does not matter to it.
-pub places : (sheet : List ℕ) (first : Lent) (before after : List Call) (c : Call)
-    → answers sheet first (before ++ c ∷ after)
-    ≡ answers sheet first before ++ call sheet (afterCalls sheet first before) c .answer ∷ answers sheet (leaves (call sheet (afterCalls sheet first before) c)) after
+places : (sheet : List ℕ) (first : Lent) (before after : List Call) (c : Call)
+    → let o = call sheet (afterCalls sheet first before) c in
+    answers sheet first (before ++ c ∷ after) ≡ answers sheet first before ++ o .answer ∷ answers sheet (leaves o) after
 unfolding answers afterCalls
 places sheet first [] after c = refl
 places sheet first (d ∷ before) after c = ap (λ l. call sheet first d .answer ∷ l) (places sheet (leaves (call sheet first d)) before after c)
@@ -154,16 +152,25 @@ module _ (sheet : List ℕ) (s : Sheet) (ok : checkSheet sheet ≡ accepted s) w
       go true p = leb-true budget 1000000 p
       go false p = absurd (refute (ap (λ o. o .answer .number) (call-over sheet s ok m entries q budget pass (leb-false budget 1000000 p))) h)
 
-  pub demand-3 : Demand3 sheet s
-  demand-3 = record {
+  ending-at : (size : ℕ) (first : Lent) → First size first → (before : List Call) (q : List ℕ) (e : Expr) → checkQuestion s q ≡ accepted e → (budget : ℕ)
+      → let r = at-place sheet first before q budget .answer in
+      HasEnding r → (ending : PlainEnding) × (n : ℕ) × PlainEnds s e ending n × Brings r ending × (r .steps ≤ n)
+  ending-at size first f before q e form budget h =
+      let (entries, r) = reached size first ([], reached-first size first f) before in
+      let is = answer-is size entries _ r q budget e (ending-permitted _ entries q budget (r .passes) h) form in
+      rw is (sound-ending s e budget _ _ _ (question-follows s size budget entries e (r .right)) (rw is at h))
+
+  of-sheet : OfSheet sheet s
+  of-sheet = record {
+    places = λ first before q budget after. places sheet first before after record { question = q; budget = budget };
     complete = λ size first f before q e form ending n h budget enough permitted.
-        let r = reached size first ([], reached-first size first f) before in
-        rw (answer-is size (r .0) _ (r .1) q budget e permitted form)
-        (complete-ending s e budget _ _ _ (question-follows s size budget (r .0) e (r .1 .right)) ending n h enough);
-    sound = λ size first f before q e form budget h.
-        let r = reached size first ([], reached-first size first f) before in
-        let is = answer-is size (r .0) _ (r .1) q budget e (ending-permitted _ (r .0) q budget (r .1 .passes) h) form in
-        rw is (sound-ending s e budget _ _ _ (question-follows s size budget (r .0) e (r .1 .right)) (rw is at h));
+        let (entries, r) = reached size first ([], reached-first size first f) before in
+        rw (answer-is size entries _ r q budget e permitted form)
+        (complete-ending s e budget _ _ _ (question-follows s size budget entries e (r .right)) ending n h enough);
+    sound = ending-at;
+    never = λ size first f before q e form for-ever budget h.
+        let (ending, n, ends, same, fewer) = ending-at size first f before q e form budget h in
+        never-both s e budget ending n ends for-ever;
     larger-stores = λ size size′ more first first′ f f′ before q e form budget h.
         let p = paired size size′ more first first′ record {
           small = [];
@@ -178,3 +185,6 @@ module _ (sheet : List ℕ) (s : Sheet) (ok : checkSheet sheet ≡ accepted s) w
         rw (is, is′) (same-ending _ _ _ _ _ (pair-runs size size′ more _ _ p q budget e .1) (rw is at h));
     larger-budgets = λ lent q b b′ more permitted n. budgets-agree sheet s ok lent q b b′ more permitted n;
   }
+
+pub demand-3 : Demand3
+demand-3 sheet s ok = of-sheet sheet s ok

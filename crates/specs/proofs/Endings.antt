@@ -9,7 +9,7 @@ use Rattle.specs.specs.Values.{Value}
 use Rattle.specs.specs.Expressions.{Expr}
 use Rattle.specs.specs.Sheet.{Sheet, context}
 use Rattle.specs.specs.Terms.{val}
-use Rattle.specs.specs.Plain.{Plain, is-value, on-null, plainStep, plainAt, EndsWithValue, EndsOnNull}
+use Rattle.specs.specs.Plain.{Plain, is-value, on-null, plainStep, plainAt, EndsWithValue, EndsOnNull, RunsForEver}
 use Rattle.specs.specs.Caching.{kept, null-node, spent, depth, with-value, by, Ending, Ended}
 use Rattle.specs.specs.Ask.{Answer, asked, reasonNumber, endedAnswer}
 use Rattle.specs.specs.Demand3.{PlainEnding, a-value, on-null-node, PlainEnds, Brings, HasEnding}
@@ -62,6 +62,15 @@ module _ (s : Sheet) (e : Expr) (budget : ℕ) where
   unfolding PlainEnds EndsWithValue EndsOnNull
   ended (a-value v) n h = (val v, h, final-value (context s) v)
   ended on-null-node n h = (h .0, h .1, final-null (context s) (h .0) (h .2))
+
+  -- it does not run for ever
+  pub never-both : (p : PlainEnding) (n : ℕ) → PlainEnds s e p n → RunsForEver (context s) (asked e) → ⊥
+  unfolding RunsForEver
+  never-both p n h for-ever =
+      let (t, comes, final) = ended p n h in
+      let (t′, further) = for-ever (suc n) in
+      let no-further = last (context s) n (suc n) (asked e) t t′ comes final further in
+      omega arith
 
   -- and it ends once
   not-both : (n : ℕ) (v : Value) → PlainEnds s e (a-value v) n → PlainEnds s e on-null-node n → ⊥

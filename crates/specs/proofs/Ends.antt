@@ -14,20 +14,8 @@ use lib.ListN.{length}
 use Rattle.specs.specs.Values.{Value, null, truth}
 use Rattle.specs.specs.Expressions.{Expr, literal, if, application, attribute, this, parameter}
 use Rattle.specs.specs.Terms.{Occurrence, val, cond, app, attr, form, put}
-use Rattle.specs.specs.Caching.{Entry, Running, kept, keptOr, write, Due, finished, counts, writes, halts, Counted, AttrApp, Reason, null-node, spent, depth, duePart, count, attrApp, due, State, with-value, by, Ended, dueAt, run}
-
--- ---- A finished run, as a relation
-
-pub data Runs (context : ℕ → ℕ → Expr) (capacity budget : ℕ) : State → Ended → Type 0 where
-  ends-value : {st : State} {v : Value} → dueAt context capacity budget st ≡ finished v
-      → Runs context capacity budget st (record { ending = with-value v; entries = st .entries; steps = st .steps })
-  ends-by : {st : State} {r : Reason} → dueAt context capacity budget st ≡ halts r
-      → Runs context capacity budget st (record { ending = by r; entries = st .entries; steps = st .steps })
-  goes-counted : {st : State} {r : Counted} {t : Running} {e : Ended} → dueAt context capacity budget st ≡ counts r t
-      → Runs context capacity budget (record { term = t; entries = st .entries; steps = suc (st .steps) }) e → Runs context capacity budget st e
-  goes-writing : {st : State} {n : Entry} {t : Running} {e : Ended} → dueAt context capacity budget st ≡ writes n t
-      → Runs context capacity budget (record { term = t; entries = write capacity (st .entries) n; steps = st .steps }) e
-      → Runs context capacity budget st e
+use Rattle.specs.specs.Caching.{Entry, Running, kept, keptOr, write, Due, finished, counts, writes, halts, Counted, AttrApp, Reason, null-node, spent, depth, duePart, count, attrApp, due, State, Ended, dueAt, run}
+use Rattle.specs.specs.Runs.{Runs, ends-value, ends-by, goes-counted, goes-writing}
 
 -- ---- What falls
 

@@ -16,7 +16,7 @@ use Rattle.specs.specs.Types.{attributeAt}
 use Rattle.specs.specs.Sheet.{Sheet, nodeCount, attributeCount, refused, accepted}
 use Rattle.specs.specs.Caching.{Entry, kept, isKept, write, State, run}
 use Rattle.specs.specs.Store.{entryBytes, entryOf, isEntry, readEntries, capacity, checkStore, entriesBytes, leftStore}
-use Rattle.specs.proofs.Sound.{IsA, EntryIn, All, all-none, all-cons}
+use Rattle.specs.specs.Sound.{IsA, EntryIn, All, all-none, all-cons}
 use Rattle.specs.proofs.Words.{word-in, word-small, bytes-trip}
 use Rattle.specs.proofs.Preservation.{either, run-case}
 

@@ -14,9 +14,9 @@ use Rattle.specs.specs.Values.{Value}
 use Rattle.specs.specs.Expressions.{Expr}
 use Rattle.specs.specs.Terms.{Occurrence}
 use Rattle.specs.specs.Caching.{Entry, sameOccurrence, kept, isKept, write, State, Ended, dueAt}
+use Rattle.specs.specs.Runs.{Runs, ends-value, ends-by, goes-counted, goes-writing}
 use Rattle.specs.proofs.Same.{same-occurrence}
 use Rattle.specs.proofs.Erasure.{Yields, Right, Faithful, Seen, seen}
-use Rattle.specs.proofs.Ends.{Runs, ends-value, ends-by, goes-counted, goes-writing}
 
 -- What is kept stays kept when entries are added.
 kept-before : (l m : List Entry) (o : Occurrence) (v : Value) → kept l o ≡ some v → kept (l ++ m) o ≡ some v

@@ -15,9 +15,9 @@ use Rattle.specs.specs.Expressions.{Expr}
 use Rattle.specs.specs.Terms.{Occurrence, val, cond, app, attr, form, put}
 use Rattle.specs.specs.Plain.{plainStep, is-value, on-null}
 use Rattle.specs.specs.Caching.{Entry, Running, kept, write, Counted, AttrApp, null-node, spent, depth, Due, finished, counts, writes, halts, duePart, count, keptOr, attrApp, due, State, Ending, with-value, by, Ended, dueAt}
+use Rattle.specs.specs.Runs.{Runs, ends-value, ends-by, goes-counted, goes-writing}
 use Rattle.specs.proofs.Erasure.{erase, Yields, Right, Faithful, Seen, seen}
 use Rattle.specs.proofs.PlainFacts.{final-value, final-null, one-end, one-value}
-use Rattle.specs.proofs.Ends.{Runs, ends-value, ends-by, goes-counted, goes-writing}
 use Rattle.specs.proofs.Keeping.{write-kept, write-full, write-alike, kept-write, kept-run, right-write, seen-at}
 
 -- ---- The relations

@@ -1,6 +1,5 @@
 pub mod TableL
 pub mod Misreadings
-pub mod Sound
 pub mod Words
 pub mod Same
 pub mod Inference
@@ -16,4 +15,5 @@ pub mod Entries
 pub mod Compare
 pub mod Endings
 pub mod Calls
+pub mod Safety
 pub mod Demand3

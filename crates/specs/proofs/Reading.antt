@@ -11,7 +11,7 @@ use borrow.Author.Tests.{leb-true, eqb-true}
 use Rattle.specs.specs.Values.{Base, Ty, Function, le, equalInt, equalNode, negation, add, subtract, function, functionOf, functionType, typeOf, Value, ofBytes, isWord}
 use Rattle.specs.specs.Expressions.{Expr, literal, if, application, attribute, this, parameter, Head, base-literal, function-literal, if-head, application-head, attribute-head, this-head, parameter-head, no-head, headOf, operandWidth, Scope, Reading, malformed, reads, _followed-by_, whenever, readOperand, readAfter, readExpr, no-expression, expression, exactly, readWhole}
 use Rattle.specs.specs.Types.{Attribute, Typed, infer}
-use Rattle.specs.proofs.Sound.{ValueIn, ExprIn}
+use Rattle.specs.specs.Sound.{ValueIn, ExprIn}
 use Rattle.specs.proofs.Words.{word-in, in-type}
 use Rattle.specs.proofs.Inference.{cond-passes, infer-sound}
 

@@ -10,7 +10,7 @@ use lib.ListN.{length}
 use lib.Signed.{mag}
 use borrow.Author.Tests.{ltb-true, ltb-false, eqb-true, eqb-false, lt-ltb, le-ltb, eq-eqb}
 use Rattle.specs.specs.Values.{Base, unitT, boolT, intT, nodeT, base, Value, bool, int, typeOf, null, lowest, highest, held, equalZ, ofBytes, toBytes, signed, unsigned, bit, isWord, ofWord, toWord, typeCode, sameValue}
-use Rattle.specs.proofs.Sound.{IsA}
+use Rattle.specs.specs.Sound.{IsA}
 
 -- ---- The form of a value
 

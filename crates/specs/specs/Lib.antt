@@ -5,8 +5,11 @@ pub mod Sheet
 pub mod Terms
 pub mod Plain
 pub mod Caching
+pub mod Runs
+pub mod Sound
 pub mod Store
 pub mod Ask
+pub mod Safety
 pub mod Calls
 pub mod Demand3
 pub mod TableL

@@ -83,7 +83,7 @@ highest = pos 2147483647
 unfoldable pub held : ℤ → ℤ
 held z = cond (ltZ z lowest) lowest (cond (ltZ highest z) highest z)
 
--- The Bool, the Int and the Node of a value. Accepted questions never meet the other cases (Preservation.antt).
+-- The Bool, the Int and the Node of a value. Accepted questions never meet the other cases (Safety.antt).
 unfoldable pub truth : Value → Bool
 truth unit = false
 truth (bool b) = b
@@ -185,7 +185,7 @@ toWord (function f) = 0
 toWord (holding h) = 0
 
 -- The type and the value that an answer brings. "A value is signed decimal, a Unit 0, a Bool 0 or 1, a Node its number or 65535."
--- An accepted question never ends with a function (Preservation.antt), whose code 4 is no base type's.
+-- An accepted question never ends with a function (Safety.antt), whose code 4 is no base type's.
 unfoldable pub typeCode : Value → ℕ
 typeCode unit = 0
 typeCode (bool b) = 1

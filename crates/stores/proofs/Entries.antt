@@ -18,7 +18,7 @@ use Rattle.specs.specs.Sheet.{Sheet, nodeCount, attributeCount, Checked, refuse
 use Rattle.specs.specs.Terms.{Occurrence}
 use Rattle.specs.specs.Caching.{Entry, sameOccurrence, kept, isKept}
 use Rattle.specs.specs.Store.{entryOf, isEntry, readEntries, checkStore}
-use Rattle.specs.proofs.Sound.{OccurrenceIn}
+use Rattle.specs.specs.Sound.{OccurrenceIn}
 use Rattle.specs.proofs.Words.{word-trip, word-in, same-value-refl}
 use Rattle.specs.proofs.Same.{same-occurrence}
 use Rattle.specs.proofs.Entries.{store-in}

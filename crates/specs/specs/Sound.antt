@@ -8,7 +8,8 @@ use lib.ListN.{length}
 use Rattle.specs.specs.Values.{Base, boolT, nodeT, Ty, base, _⇒_, Value, typeOf, isWord, ofWord, toWord}
 use Rattle.specs.specs.Expressions.{Expr, literal, if, application, attribute, this, parameter, Scope}
 use Rattle.specs.specs.Types.{Attribute, attributeAt}
-use Rattle.specs.specs.Terms.{Occurrence, val, cond, app, attr, form}
+use Rattle.specs.specs.Terms.{Occurrence, Term, val, cond, app, attr, form}
+use Rattle.specs.specs.Plain.{Plain}
 use Rattle.specs.specs.Caching.{Running, Entry}
 
 -- A value of the base type B on a sheet of so many nodes: its four-byte form is one of B's, and holds it.
@@ -45,15 +46,23 @@ pub data All {A : Type 0} (P : A → Type 0) : List A → Type 0 where
   all-none : All P []
   all-cons : {x : A} {l : List A} → P x → All P l → All P (x ∷ l)
 
--- A running expression (001, figures 5, 8 and 10).
-pub data TermIn (nodes : ℕ) (sig : List Attribute) : Running → Ty → Type 0 where
-  val∈ : {v : Value} {T : Ty} → ValueIn nodes T v → TermIn nodes sig (val v) T
-  cond∈ : {c t e : Running} {T : Ty} → TermIn nodes sig c (base boolT) → TermIn nodes sig t T → TermIn nodes sig e T → TermIn nodes sig (cond c t e) T
-  app∈ : {f x : Running} {B : Base} {T : Ty} → TermIn nodes sig f (B ⇒ T) → TermIn nodes sig x (base B) → TermIn nodes sig (app f x) T
-  attr∈ : {n x : Running} {a : ℕ} → a < length sig → TermIn nodes sig n (base nodeT) → TermIn nodes sig x (base (attributeAt sig a .parameter-type))
-      → TermIn nodes sig (attr n a x) (base (attributeAt sig a .result))
-  form∈ : {o : Occurrence} {e : Running} → OccurrenceIn nodes sig o → TermIn nodes sig e (base (attributeAt sig (o .attribute) .result))
-      → TermIn nodes sig (form o e) (base (attributeAt sig (o .attribute) .result))
+-- A running expression (001, figures 5, 8 and 10). `FormIn o B` says what lets a form o := e have the base type B, given that e has it.
+pub data TermIn {F : Type 0} (FormIn : F → Base → Type 0) (nodes : ℕ) (sig : List Attribute) : Term F → Ty → Type 0 where
+  val∈ : {v : Value} {T : Ty} → ValueIn nodes T v → TermIn FormIn nodes sig (val v) T
+  cond∈ : {c t e : Term F} {T : Ty} → TermIn FormIn nodes sig c (base boolT) → TermIn FormIn nodes sig t T → TermIn FormIn nodes sig e T
+      → TermIn FormIn nodes sig (cond c t e) T
+  app∈ : {f x : Term F} {B : Base} {T : Ty} → TermIn FormIn nodes sig f (B ⇒ T) → TermIn FormIn nodes sig x (base B) → TermIn FormIn nodes sig (app f x) T
+  attr∈ : {n x : Term F} {a : ℕ} → a < length sig → TermIn FormIn nodes sig n (base nodeT)
+      → TermIn FormIn nodes sig x (base (attributeAt sig a .parameter-type))
+      → TermIn FormIn nodes sig (attr n a x) (base (attributeAt sig a .result))
+  form∈ : {o : F} {e : Term F} {B : Base} → FormIn o B → TermIn FormIn nodes sig e (base B) → TermIn FormIn nodes sig (form o e) (base B)
+
+-- In plain Saiga no form has a type, since there is none. In the caching steps the form of an occurrence has the attribute's result type.
+abbrev pub PlainIn : ℕ → List Attribute → Plain → Ty → Type 0
+PlainIn nodes sig t T = TermIn (λ o B. ⊥) nodes sig t T
+
+abbrev pub RunningIn : ℕ → List Attribute → Running → Ty → Type 0
+RunningIn nodes sig t T = TermIn (λ o B. OccurrenceIn nodes sig o × (B ≡ attributeAt sig (o .attribute) .result)) nodes sig t T
 
 -- A context (001, "a correctly-typed context"): σ of each declared pair has the attribute's type.
 pub record ContextIn (nodes : ℕ) (sig : List Attribute) (context : ℕ → ℕ → Expr) : Type 0 where
