@@ -10,4 +10,7 @@ pub mod Ask
 pub mod Calls
 pub mod Demand3
 pub mod TableL
+pub mod Rows
 pub mod Misreadings
+pub mod TableStops
+pub mod TableStores
