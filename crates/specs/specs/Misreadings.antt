@@ -192,12 +192,12 @@ own n x = attribute-of 1 n x
 -- The order of the parts, seen where one of them ends all: node 0's up is null.
 unfoldable pub PlainParts : Type 0
 PlainParts =
-    -- "the node part is stepped to a value, then the parameter": up of null ends all, after node 0's up, and the parameter is not stepped.
+    -- "the node part is stepped to a value, then the parameter": up of null ends all after one step, node 0's up, and the parameter takes none.
     Plainly sheetL (own (up (up (node-literal 0) unit-literal) unit-literal) (a-step-to unit-literal))
     (λ s e. EndsOnNull (context s) (asked e) 1)
-    -- "On null": the node part is null, and the parameter is stepped all the same.
+    -- "On null" comes after both: the node part is null, and the parameter takes its step first.
     × Plainly sheetL (own (up (node-literal 0) unit-literal) (a-step-to unit-literal)) (λ s e. EndsOnNull (context s) (asked e) 2)
-    -- "the left part is stepped to a value, then the right": own of null ends all before the right part is stepped.
+    -- "the left part is stepped to a value, then the right": own of null ends all before the right part takes its step.
     × Plainly sheetL (two 4 (own null-literal unit-literal) (a-step-to (whole 1))) (λ s e. EndsOnNull (context s) (asked e) 0)
 
 -- The tables, as one statement.

@@ -92,7 +92,7 @@ sheets =
     refuses (front ++ rule0 ++ 0x52 ∷ 0 ∷ 0 ∷ 0 ∷ 0 ∷ 0x5A ∷ []) 5 14 ∷
     -- 6: length 0 and 257; a piece that is no expression, or not of exactly that length
     refuses (front ++ 0x52 ∷ 0 ∷ 0 ∷ 0 ∷ 0 ∷ 0x5A ∷ []) 6 8 ∷
-    -- 6 and not 2: a header of length 0 as the last bytes is whole "with the length it states"
+    -- 6, not 2: "a rule with the length it states" is not cut where it states 0, though the sheet has no byte more
     refuses (front ++ 0x52 ∷ 0 ∷ 0 ∷ 0 ∷ 0 ∷ []) 6 8 ∷
     accepts (front ++ figure0 ++ 0x52 ∷ 0 ∷ 1 ∷ 0 ∷ 1 ∷ longest ++ 0x5A ∷ []) ∷
     refuses (front ++ figure0 ++ 0x52 ∷ 0 ∷ 1 ∷ 1 ∷ 1 ∷ nots 85 ++ 0x5A ∷ []) 6 16 ∷
@@ -113,7 +113,7 @@ sheets =
     refuses (front ++ 0x4E ∷ 1 ∷ rule0 ++ 0x52 ∷ 1 ∷ 0 ∷ 1 ∷ 0 ∷ 0x31 ∷ 0x5A ∷ []) 8 1 ∷
     refuses (front ++ 0x4E ∷ 1 ∷ figure1 ++ rule0 ++ 0x52 ∷ 1 ∷ 0 ∷ 1 ∷ 0 ∷ 0x31 ∷ 0x5A ∷ []) 8 33 ∷
     refuses (front ++ 0x4E ∷ 1 ∷ figure0 ++ figure1 ++ 0x5A ∷ []) 8 32 ∷
-    -- 8: of (0, 1) and (1, 0) the first by node, not by attribute
+    -- 8: "by node then attribute": of (0, 1) and (1, 0) it is 1, not 32
     refuses (front ++ 0x4E ∷ 1 ∷ 0x56 ∷ 1 ∷ 0 ∷ 1 ∷ 1 ∷ 0 ∷ 0 ∷ 0 ∷ rule0 ++ 0x5A ∷ []) 8 1 ∷
     accepts sheetF ∷
     []

@@ -52,10 +52,10 @@ stores =
     -- A kept value is taken, right or wrong; bytes that are not kept are none.
     case sheetP (entry 0 0 3 100) 1 (put-to (next (whole 3)) 1000000) (an-int (pos 100) 1 1) (entry 0 0 3 100) ∷
     case sheetP (entry 0 0 3 100) 0 (put-to (next (whole 3)) 1000000) (an-int (pos 4) 3 1) (entry 0 0 3 4) ∷
-    -- Left part before right part: subtract(next(3))(next(4)).
+    -- "Left part before right part": subtract(next(3))(next(4)).
     case sheetP (replicate 24 0) 0 (put-to (two 5 (next (whole 3)) (next (whole 4))) 1000000) (an-int (negsuc 0) 8 2)
     (entry 0 0 3 4 ++ entry 0 0 4 5) ∷
-    -- "node, then parameter" (001's AttrLeft and AttrRight): echo of 0.echo(1) with 0.echo(0).
+    -- And node part before parameter part: echo of 0.echo(1) with 0.echo(0).
     case (sheetEcho 2) (replicate 36 0) 0 (put-to (echo (echo (node-literal 0) (node-literal 1)) (echo (node-literal 0) (node-literal 0))) 1000000)
     (a-node 0 3 3) (entry 0 0 1 1 ++ entry 0 0 0 0 ++ entry 1 0 0 0) ∷
     -- next(−1) is 0: two's complement.
@@ -75,18 +75,18 @@ wide-kept =
     1 ∷ 0 ∷ 0 ∷ 0 ∷ 0 ∷ 0 ∷ 0 ∷ 0 ∷ 0 ∷ 0 ∷ 0 ∷ 0 ∷
     1 ∷ 1 ∷ 0 ∷ 0 ∷ 0 ∷ 0 ∷ 0 ∷ 0 ∷ 0 ∷ 1 ∷ 0 ∷ 0 ∷ []
 
--- "Node its declared number, or 65,535 for null", as parameter and as value, and an entry's node in two bytes.
+-- "Node its declared number, or 65,535 for null", and an entry's "node (2)".
 abbrev pub node-entries : List Case
 node-entries =
-    -- 0.echo(null) is null: FF FF 00 00, twice.
+    -- Null as parameter and as value, FF FF 00 00: 0.echo(null).
     case (sheetEcho 2) (replicate 12 7) 0 (put-to (echo (node-literal 0) null-literal) 1000000) (a-node 65535 1 1)
     (0 ∷ 0 ∷ 0 ∷ 0 ∷ 0xFF ∷ 0xFF ∷ 0 ∷ 0 ∷ 0xFF ∷ 0xFF ∷ 0 ∷ 0 ∷ []) ∷
-    -- Lent, null is found and taken as any other value, in 0.echo(0.echo(0)).
+    -- "AttrApp takes a kept value before σ", where value and parameter are null too: 0.echo(0.echo(0)).
     case (sheetEcho 2) null-kept 2 (put-to (echo (node-literal 0) (echo (node-literal 0) (node-literal 0))) 1000000) (a-node 1 2 2) null-kept ∷
-    -- Node 257 is 01 01, node 256 is 00 01: 257.echo(256).
+    -- Node 257 is 01 01, and node 256, a value, 00 01 00 00: 257.echo(256).
     case (sheetEcho 258) (replicate 12 7) 0 (put-to (echo (0x13 ∷ 1 ∷ 1 ∷ []) (0x13 ∷ 0 ∷ 1 ∷ [])) 1000000) (a-node 256 1 1)
     (1 ∷ 1 ∷ 0 ∷ 0 ∷ 0 ∷ 1 ∷ 0 ∷ 0 ∷ 0 ∷ 1 ∷ 0 ∷ 0 ∷ []) ∷
-    -- Lent, 257.echo(0) is another occurrence than 1.echo(0), kept before it, and its value is taken.
+    -- 257.echo(0) is another occurrence than 1.echo(0), kept before it, and its own value is taken.
     case (sheetEcho 258) wide-kept 2 (put-to (echo (0x13 ∷ 1 ∷ 1 ∷ []) (node-literal 0)) 1000000) (a-node 256 1 2) wide-kept ∷
     []
 
@@ -106,7 +106,8 @@ lent-stores =
     refuses-store (replicate 18 0) 0 9 0 ∷
     refuses-store (replicate 12300 0) 0 9 0 ∷
     refuses-store (entry 0 0 3 4) 2 9 0 ∷
-    -- 10, before 11: node (1, and 256), attribute, fourth byte, parameter, value, and an occurrence kept before
+    -- 10, before 11: node (1, and 256), attribute, fourth byte, "bytes that are no value of the type" as parameter and value, Unit and
+    -- Bool, then Node, and an occurrence kept before
     refuses-store (entry 1 0 3 4) 1 10 0 ∷
     refuses-store (0 ∷ 1 ∷ 0 ∷ 0 ∷ 3 ∷ 0 ∷ 0 ∷ 0 ∷ 4 ∷ 0 ∷ 0 ∷ 0 ∷ []) 1 10 0 ∷
     refuses-store (entry 0 0 3 4 ++ entry 0 2 0 0) 2 10 1 ∷
