@@ -1,5 +1,7 @@
 pub mod TableL
 pub mod Misreadings
+pub mod TableStops
+pub mod TableStores
 pub mod Words
 pub mod Same
 pub mod Inference

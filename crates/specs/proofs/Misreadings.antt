@@ -1,8 +1,13 @@
--- The tables beside table L hold, by computation.
+-- The rows beside table L hold, by computation.
 use mathlib.Core.Path.{refl}
-use Rattle.specs.specs.Misreadings.{outcomes, Misreadings}
+use Rattle.specs.specs.TableL.{Plainly}
+use Rattle.specs.specs.Misreadings.{PlainParts, Misreadings}
 use Rattle.specs.proofs.TableL.{definitions}
 
+plain-parts : PlainParts
+unfolding definitions Plainly PlainParts
+plain-parts = ((_, _, refl, refl, (_, refl, refl)), (_, _, refl, refl, (_, refl, refl)), (_, _, refl, refl, (_, refl, refl)))
+
 pub misreadings : Misreadings
-unfolding definitions outcomes Misreadings
-misreadings = (refl, refl, refl, refl, refl, refl, refl)
+unfolding definitions Misreadings
+misreadings = (refl, refl, refl, plain-parts)

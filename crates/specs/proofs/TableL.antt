@@ -21,7 +21,7 @@ definitions = tt
 
 pub table-L : TableL
 unfolding definitions TableL
-table-L = (refl, refl)
+table-L = (refl, refl, refl)
 
 -- Where a step leads back to the expression itself, plain Saiga runs for ever.
 loops : (context : ℕ → ℕ → Expr) (t : Plain) → plainStep context t ≡ steps-to t → RunsForEver context t

@@ -13,4 +13,7 @@ pub mod Safety
 pub mod Calls
 pub mod Demand3
 pub mod TableL
+pub mod Rows
 pub mod Misreadings
+pub mod TableStops
+pub mod TableStores

@@ -125,7 +125,8 @@ unfoldable pub require : Bool → ℕ → Read → Read
 require true number r = r
 require false number r = stops number 0
 
--- Each of the five below has the command's operands `l` and the part reached, and makes its tests in the order of the stops.
+-- Each of the five below has what follows the command's byte, `l`, and makes its tests in the order of the stops. All but `readEnd` have
+-- the part reached: the end may follow any part.
 
 unfoldable pub readAttribute : Sheet → ℕ → List ℕ → Read
 readAttribute s part l =

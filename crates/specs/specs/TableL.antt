@@ -3,7 +3,7 @@ use mathlib.Core.Bool.{true}
 use mathlib.Core.List.{List, [], _∷_}
 use mathlib.Core.Path.{_≡_}
 use Prim.Native.Nat.{ℕ}
-use lib.ListN.{take}
+use lib.ListN.{length, take}
 use lib.IntN.{ℤ, pos}
 use Rattle.specs.specs.Values.{Value, unit, bool, int, node}
 use Rattle.specs.specs.Expressions.{Expr}
@@ -104,8 +104,8 @@ tableL =
     -- L11: "question Int 5, budget 0: 5, steps 0"
     row sheetL 1024 (put-to five 0 ∷ []) (answer 0 0 2 (pos 5) 0 0 ∷ []) ∷
     -- L12: "an attribute defined as itself: budget 65 gives 16 after 64 steps; budget 64 gives 15"
-    row sheetL12 1024 (put-to itself 65 ∷ put-to itself 64 ∷ [])
-    (answer 16 0 0 (pos 0) 64 0 ∷ answer 15 0 0 (pos 0) 64 0 ∷ []) ∷
+    row sheetL12 1024 (put-to itself 65 ∷ []) (answer 16 0 0 (pos 0) 64 0 ∷ []) ∷
+    row sheetL12 1024 (put-to itself 64 ∷ []) (answer 15 0 0 (pos 0) 64 0 ∷ []) ∷
     -- L13: "add(2,147,483,647)(1) is 2,147,483,647"
     row sheetL 1024 (put-to overTheEnd 1000000 ∷ []) (answer 0 0 2 (pos 2147483647) 2 0 ∷ []) ∷
     -- "Empty sheet: 2 at 0. The single byte 0x5A is accepted."
@@ -130,10 +130,11 @@ unfoldable pub bring : List Row → List (List Answer)
 bring [] = []
 bring (r ∷ l) = answers (r .sheet) (empty (r .capacity)) (r .calls) ∷ bring l
 
--- The table and the order of L1's entries, as one statement.
+-- Sheet L's length, the table and the order of L1's entries, as one statement.
 unfoldable pub TableL : Type 0
 TableL =
-    (bring tableL ≡ brought tableL)
+    (length sheetL ≡ 103)
+    × (bring tableL ≡ brought tableL)
     × (take 60 (afterCalls sheetL (empty 1024) (put-to D 1000000 ∷ []) .store) ≡ entriesBytes keptL1)
 
 -- ---- Plain Saiga on the same bytes

@@ -28,7 +28,9 @@ baseCode nodeT = 3
 unfoldable pub baseOf : ℕ → Base
 baseOf c = cond (eqb c 0) unitT (cond (eqb c 1) boolT (cond (eqb c 2) intT nodeT))
 
--- Types are the base types and functions from a base type (001, figure 3).
+-- The types: the base types, and "the types of functions between basic types" (001, section 3.1). Figure 5 lets an application's argument
+-- have any type. Here a base type is enough: attributes and the parameter have base types, so whatever has a function type comes from one
+-- of the six functions, alone, given its first argument, or in a branch of IF, and each argument of these has a base type.
 infixr 40 _⇒_
 pub data Ty : Type 0 where
   base : Base → Ty
