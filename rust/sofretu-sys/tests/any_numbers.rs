@@ -1,0 +1,79 @@
+//! `check_store` answers by its definition whatever its numbers are: it is held to the C header's words on made-up sheets, stores and numbers.
+
+use std::collections::HashSet;
+
+use sofretu_sys::{check_store, LINKS};
+
+/// Whether four bytes are a value of the type with this code, where so many nodes are declared.
+fn is_word(code: u8, nodes: u64, word: u32) -> bool {
+    match code {
+        0 => word == 0,
+        1 => word < 2,
+        2 => true,
+        _ => u64::from(word) < nodes || word == 65_535,
+    }
+}
+
+/// What the header says of a store, for any numbers of attributes and nodes.
+fn said(sheet: &[u8], attributes: u64, nodes: u64, store: &[u8], kept: u64) -> (u32, u64) {
+    if !store.len().is_multiple_of(12) || store.len() > 12_288 || kept > store.len() as u64 / 12 {
+        return (9, 0);
+    }
+    let attributes = attributes.min(sheet.len() as u64 / 3);
+    let mut before = HashSet::new();
+    for (place, entry) in store.chunks(12).take(kept as usize).enumerate() {
+        let node = u16::from_le_bytes([entry[0], entry[1]]);
+        let at = 3 * usize::from(entry[2]);
+        let word = |from: usize| u32::from_le_bytes(entry[from..from + 4].try_into().unwrap());
+        let good = u64::from(node) < nodes
+            && u64::from(entry[2]) < attributes
+            && entry[3] == 0
+            && is_word(sheet[at + 2], nodes, word(4))
+            && is_word(sheet[at + 1], nodes, word(8))
+            && before.insert((node, entry[2], word(4)));
+        if !good {
+            return (10, place as u64);
+        }
+    }
+    (0, 0)
+}
+
+/// Numbers below a bound, the same ones in every run.
+struct Numbers(u64);
+
+impl Numbers {
+    fn below(&mut self, bound: u64) -> u64 {
+        self.0 = self.0.wrapping_mul(6_364_136_223_846_793_005).wrapping_add(1_442_695_040_888_963_407);
+        (self.0 >> 33) % bound
+    }
+}
+
+#[test]
+fn any_numbers_are_answered_as_the_header_says() {
+    let mut numbers = Numbers(9);
+    let mut links = [0; LINKS];
+    let mut met = [0; 11];
+    for _ in 0..40_000 {
+        let sheet: Vec<u8> = (0..numbers.below(20)).map(|_| numbers.below(5) as u8).collect();
+        let entries = numbers.below(4);
+        let mut store = Vec::new();
+        for _ in 0..entries {
+            let value = [numbers.below(3) as u8, 0, 0, 0];
+            store.extend([numbers.below(2) as u8, 0, numbers.below(3) as u8, 0]);
+            store.extend([numbers.below(2) as u8, 0, 0, 0]);
+            store.extend(if numbers.below(8) == 0 { [255, 255, 0, 0] } else { value });
+        }
+        if numbers.below(20) == 0 {
+            store.push(0);
+        }
+        let any = [0, 1, 2, 3, 33, 1_025, u64::MAX / 3, u64::MAX];
+        let attributes = any[numbers.below(8) as usize];
+        let nodes = any[numbers.below(8) as usize];
+        let kept = numbers.below(entries + 2);
+        let found = check_store(&sheet, attributes, nodes, &store, kept, &mut links);
+        let expected = said(&sheet, attributes, nodes, &store, kept);
+        assert_eq!(found, expected, "{sheet:?} {attributes} {nodes} {store:?} {kept}");
+        met[found.0 as usize] += 1;
+    }
+    assert!(met[0] > 1_000 && met[9] > 1_000 && met[10] > 1_000, "{met:?}");
+}
