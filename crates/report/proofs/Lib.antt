@@ -3,6 +3,6 @@ pub mod Counts
 pub mod Preparing
 pub mod Turns
 pub mod Running
-pub mod Printed
+pub mod PrintedL
 pub mod Runs
 pub mod LongSheets
