@@ -4,5 +4,6 @@ pub mod Preparing
 pub mod Turns
 pub mod Running
 pub mod PrintedL
+pub mod Few
 pub mod Runs
 pub mod LongSheets

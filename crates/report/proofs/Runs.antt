@@ -2,9 +2,11 @@
 -- that `printed` says of that input, and one that was cut off the first of them.
 use mathlib.Core.Bool.{Bool, true, false, true≢false, false≢true}
 use mathlib.Core.List.{List, [], _∷_, _++_, append-assoc, append-nil}
+use mathlib.Core.Logic.{⊎-elim}
 use mathlib.Core.Path.{_≡_, refl, sym, ap, _∙_}
-use Prim.Native.Nat.{ℕ}
-use lib.ListN.{take, drop}
+use Prim.Native.Nat.{ℕ, _<_}
+use native.Mathlib.Omega.{arith}
+use lib.ListN.{length}
 use Rattle.specs.specs.Ask.{Answer}
 use Rattle.specs.specs.Calls.{empty, call, answers}
 use Rattle.lines.specs.Lines.{lineOf}
@@ -13,6 +15,7 @@ use Rattle.stream.specs.declared.Next.the-variants.{Question, Cut, End, More}
 use Rattle.stream.proofs.Items.{told}
 use Rattle.stream.specs.Stream.{items}
 use Rattle.report.specs.Printed.{put, asks, calls, lines, printed}
+use Rattle.report.proofs.Few.{used-up}
 use Rattle.report.specs.Report.{View, after, next, turned, given, taken, Turns, none, one-more, Ran}
 
 -- the answers to all of an input
@@ -77,3 +80,9 @@ module _ {sheet : List ℕ} {v : View} {left : ℕ} {written : Bool} (r : Ran sh
       go : (t : Bool) → v .going ≡ t → Begins (lines (r .answers)) (printed sheet (r .input))
       go true e = rw append-nil at (turns-begun (r .turns) e [] (λ t. refl))
       go false e = ([], rw append-nil (sym (ran-printed e)))
+
+-- So the report program prints what document 01 says: a run whose lines were all written, and that read no more than 10^19 bytes, has given
+-- exactly the lines of the input that it took.
+pub run-prints : {sheet : List ℕ} {v : View} {left : ℕ} (r : Ran sheet v left true) → length (r .input) < 10000000000000000000 → lines (r .answers) ≡ printed sheet (r .input)
+run-prints r short =
+    ⊎-elim (ran-printed r) (⊎-elim (λ none-left. absurd (omega (arith, used-up r none-left))) (λ unwritten. absurd (true≢false unwritten))) (r .over)

@@ -198,6 +198,7 @@ fn turn<'a>(
     let from = s.from;
     let to = s.to;
     let came = s.came;
+    let read_to = to + came;
     let kept = s.kept;
     let ended = s.ended;
     match stream::next_item(&input[from..to], ended) {
@@ -260,7 +261,7 @@ fn turn<'a>(
         },
         Next::More => State {
             from,
-            to: to + came,
+            to: read_to,
             came: 0,
             kept,
             ended: came == 0,

@@ -13,6 +13,9 @@ use Rattle.report.proofs.turn.Tie as tie
 within : (c : tie.Start) → c .args .s .to ≤ length (c .args .input .now)
 within c = omega (arith, c .pre .1 .0 .1)
 
+add-read-to : tie.Need-add-read-to
+add-read-to c = search needs
+
 sub-next-item : tie.Need-sub-next-item
 sub-next-item c = search needs
 
@@ -70,9 +73,6 @@ enum-told-2 c = search needs
 
 enum-told-3 : tie.Need-enum-told-3
 enum-told-3 c = search needs
-
-add-t47 : tie.Need-add-t47
-add-t47 c = search needs
 
 same-length : tie.Need-same-length
 same-length c = search needs
@@ -172,6 +172,7 @@ pub turn-spec : {M : Type 1} → statement M
 turn-spec =
     tie.close
     (tie.spec
+    add-read-to
     sub-next-item
     part-next-item-start
     part-next-item-end
@@ -188,7 +189,6 @@ turn-spec =
     answer-requires-2
     enum-told-2
     enum-told-3
-    add-t47
     same-length
     same-length-2
     returns
