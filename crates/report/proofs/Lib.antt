@@ -3,6 +3,7 @@ pub mod Counts
 pub mod Preparing
 pub mod Turns
 pub mod Running
-pub mod Printed
+pub mod PrintedL
+pub mod Few
 pub mod Runs
 pub mod LongSheets

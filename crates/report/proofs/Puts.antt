@@ -1,8 +1,10 @@
 -- A question put to a refused sheet, and to one that was accepted.
 use mathlib.Core.List.{List, []}
-use mathlib.Core.Path.{_≡_, ap, ap₂}
-use Prim.Native.Nat.{ℕ}
+use mathlib.Core.Path.{_≡_, sym, ap, ap₂}
+use Prim.Native.Nat.{ℕ, _+_, _≤_}
 use native.Mathlib.Omega.{arith}
+use lib.ListN.{length}
+use lib.Seq.{sets, sets-eq, length-sets, take-at}
 use Rattle.specs.specs.Ask.{refusal, ask}
 use Rattle.specs.specs.Calls.{leaves, call}
 use Rattle.sheets.specs.declared.SheetCheck.{SheetCheck}
@@ -10,7 +12,9 @@ use Rattle.sheets.specs.declared.SheetCheck.the-variants.{Refused}
 use Rattle.checks.specs.Answers.{answerOf}
 use Rattle.calls.specs.Prepared.{PreparedStore}
 use Rattle.calls.proofs.Preparing.{refuses, sheet-refused}
-use Rattle.report.specs.Report.{Prepared, Put, lent, after}
+use Rattle.lines.specs.Lines.{lineOf}
+use Rattle.report.specs.Printed.{asks}
+use Rattle.report.specs.Report.{Prepared, Put, Line, lent, after}
 use Rattle.checks.specs.declared.Answer as Declared
 
 module _ {check : SheetCheck} {sheet index store : List ℕ} {kept : ℕ} {links : List ℕ} (p : Prepared check sheet index store kept links) where
@@ -38,3 +42,17 @@ pub put-after : {check : SheetCheck} {sheet index question store : List ℕ} {ke
     → Put check sheet index question store kept left links r → lent left (answerOf r .kept) ≡ after sheet (lent store kept) question
 unfolding after leaves call
 put-after p = ap₂ lent (p .store-is) (ap (λ a. a .kept) (p .answer))
+
+-- the line of the answer, as it was written into its buffer
+pub put-line : {check : SheetCheck} {sheet index question store : List ℕ} {kept : ℕ} {left links : List ℕ} {r : Declared.Answer}
+    → Put check sheet index question store kept left links r → (buffer : List ℕ) (n : ℕ) → length buffer ≡ 128 → n ≡ length (lineOf (answerOf r)) → n ≤ 127
+    → Line (sets buffer 0 (lineOf (answerOf r))) n (lineOf (call sheet (lent store kept) (asks question) .answer))
+unfolding call
+put-line {r = r} p buffer n size is fits =
+    let text = lineOf (answerOf r) in
+    let within : 0 + length text ≤ length buffer = omega arith in
+    record {
+      bytes = rw (← p .answer, sets-eq text buffer 0 within) (take-at text _ n (sym is));
+      fits = fits;
+      size = rw length-sets size;
+    }

@@ -1,8 +1,9 @@
 -- What the report program keeps from question to question, and what a turn of its run makes of it (document 01, "The report program").
 use mathlib.Core.Bool.{Bool, true, false}
 use mathlib.Core.List.{List, [], _∷_, _++_}
+use mathlib.Core.Logic.{_⊎_}
 use mathlib.Core.Path.{_≡_}
-use Prim.Native.Nat.{ℕ, _+_, _-_}
+use Prim.Native.Nat.{ℕ, suc, _+_, _-_, _≤_}
 use lib.Dec.{eqb}
 use lib.ListN.{length, take, drop}
 use Rattle.specs.specs.Ask.{Answer, ask}
@@ -40,6 +41,12 @@ lent store kept = record { store = store; kept = kept }
 unfoldable pub after : List ℕ → Lent → List ℕ → Lent
 after sheet m question = leaves (call sheet m (asks question))
 
+-- A line that was left at the front of its buffer of 128 bytes.
+pub record Line (buffer : List ℕ) (n : ℕ) (line : List ℕ) : Type 0 where
+  pub bytes : take n buffer ≡ line
+  pub fits : n ≤ 127
+  pub size : length buffer ≡ 128
+
 -- ---- A turn
 
 -- What a turn works on: the bytes at hand, whether the input's end was seen, whether there is more to do, and what the next question is
@@ -59,34 +66,71 @@ viewOf input store s =
       lends = lent store (s .kept);
     }
 
+-- the bytes that were read for the next turn
+abbrev pub chunkOf : List ℕ → State → List ℕ
+chunkOf input s = take (s .came) (drop (s .to) input)
+
 -- what comes next, of the bytes at hand
 abbrev pub next : View → Next
 next v = nextOf (front (v .hand)) (v .ended)
 
--- What a turn leaves, by what comes next: a question is put, and taken off the bytes at hand; one that is cut is put as no bytes, which is as
--- malformed as any, and ends the run; what is read comes after the bytes at hand, and nothing read is the input's end.
-pub data Turns (sheet : List ℕ) (v w : View) : Next → Type 0 where
-  a-question : {n : ℕ} → w .hand ≡ drop (2 + n) (v .hand) → w .ended ≡ v .ended → w .lends ≡ after sheet (v .lends) (take n (drop 2 (v .hand)))
-      → Turns sheet v w (Question n)
-  a-cut : w .going ≡ false → w .lends ≡ after sheet (v .lends) [] → Turns sheet v w Cut
-  the-end : w .going ≡ false → w .lends ≡ v .lends → Turns sheet v w End
-  more : (chunk : List ℕ) → w .hand ≡ v .hand ++ chunk → w .ended ≡ eqb (length chunk) 0 → w .going ≡ true → w .lends ≡ v .lends → Turns sheet v w More
+-- What a turn leaves, by what comes next. A question is put, and taken off the bytes at hand; one that is cut is put as no bytes, which is as
+-- malformed as any, and ends the run, as the input's end does. Where more of the input is asked for, the chunk that was read comes after the
+-- bytes at hand, and an empty one is the input's end.
+unfoldable pub turned : List ℕ → View → List ℕ → Next → View
+turned sheet v chunk (Question n) =
+    record {
+      hand = drop (2 + n) (v .hand);
+      ended = v .ended;
+      going = true;
+      lends = after sheet (v .lends) (take n (drop 2 (v .hand)));
+    }
+turned sheet v chunk Cut = record { hand = v .hand; ended = v .ended; going = false; lends = after sheet (v .lends) [] }
+turned sheet v chunk End = record { hand = v .hand; ended = v .ended; going = false; lends = v .lends }
+turned sheet v chunk More = record { hand = v .hand ++ chunk; ended = eqb (length chunk) 0; going = true; lends = v .lends }
+
+-- The answers that a turn gives: one to a question, whole or cut.
+unfoldable pub given : List ℕ → View → Next → List Answer
+given sheet v (Question n) = call sheet (v .lends) (asks (take n (drop 2 (v .hand)))) .answer ∷ []
+given sheet v Cut = call sheet (v .lends) (asks []) .answer ∷ []
+given sheet v End = []
+given sheet v More = []
+
+-- What a turn takes of the input: the chunk, where more of it is asked for.
+unfoldable pub taken : List ℕ → Next → List ℕ
+taken chunk (Question n) = []
+taken chunk Cut = []
+taken chunk End = []
+taken chunk More = chunk
+
+-- the bytes at hand, and those after them that were read, are within the buffer
+abbrev pub Within : List ℕ → State → Type 0
+Within input s = (s .from ≤ s .to) × (s .to + s .came ≤ length input)
+
+-- What a read for the next turn leaves of the buffer: what the turn works on is the same; and where no more is asked for, so are buffer and
+-- state.
+pub record Fetched (input left : List ℕ) (s r : State) : Type 0 where
+  pub within : Within left r
+  pub same : (store : List ℕ) → viewOf left store r ≡ viewOf input store s
+  pub unasked : (store : List ℕ) → (next (viewOf input store s) ≡ More → ⊥) → (left ≡ input) × (r ≡ s)
 
 -- ---- The run
-
--- the bytes that a turn read
-unfoldable pub came : {sheet : List ℕ} {v w : View} → Turns sheet v w More → List ℕ
-came (more chunk hand ended going lends) = chunk
-
--- Turns from a view to the end of the input: the chunks that they read, and the answers that they print.
-pub data Runs (sheet : List ℕ) : View → List (List ℕ) → List Answer → Type 0 where
-  puts : {v w : View} {n : ℕ} {chunks : List (List ℕ)} {l : List Answer} → next v ≡ Question n → Turns sheet v w (Question n) → Runs sheet w chunks l
-      → Runs sheet v chunks (call sheet (v .lends) (asks (take n (drop 2 (v .hand)))) .answer ∷ l)
-  reads : {v w : View} {chunks : List (List ℕ)} {l : List Answer} → next v ≡ More → (t : Turns sheet v w More) → Runs sheet w chunks l
-      → Runs sheet v (came t ∷ chunks) l
-  cuts : {v w : View} → next v ≡ Cut → Turns sheet v w Cut → Runs sheet v [] (call sheet (v .lends) (asks []) .answer ∷ [])
-  ends : {v w : View} → next v ≡ End → Turns sheet v w End → Runs sheet v [] []
 
 -- before the first turn
 abbrev pub start : View
 start = record { hand = []; ended = false; going = true; lends = empty 1024 }
+
+-- So many turns from the start, each as there was more to do: what they took of the input, the answers that they gave, and where they lead.
+pub data Turns (sheet : List ℕ) : ℕ → List ℕ → List Answer → View → Type 0 where
+  none : Turns sheet 0 [] [] start
+  one-more : {k : ℕ} {input : List ℕ} {l : List Answer} {v : View} (chunk : List ℕ) → Turns sheet k input l v → v .going ≡ true
+      → Turns sheet (suc k) (input ++ taken chunk (next v)) (l ++ given sheet v (next v)) (turned sheet v chunk (next v))
+
+-- How a run has ended, with so many turns left of 2^64 - 1: there is no more to do, or no turn is left, or a line was not written.
+pub record Ran (sheet : List ℕ) (v : View) (left : ℕ) (written : Bool) : Type 0 where
+  pub made : ℕ
+  pub input : List ℕ
+  pub answers : List Answer
+  pub turns : Turns sheet made input answers v
+  pub counted : made + left ≡ 18446744073709551615
+  pub over : (v .going ≡ false) ⊎ ((left ≡ 0) ⊎ (written ≡ false))

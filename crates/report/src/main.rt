@@ -1,87 +1,42 @@
 // The report program (document 01): it reads the sheet in sheet.bin, takes questions from standard input and prints a line for each.
+mod system;
+
 use checks::Answer;
-use libc::STDIN_FILENO;
-use libc::STDOUT_FILENO;
 use sheets::SheetCheck;
 use stream::Next;
 ghost use mathlib.Core.Path.{_≡_};
-ghost use Prim.Native.Nat.{_+_, _-_, _≤_, _<_};
-ghost use lib.ListN.{length, take, drop};
+ghost use Prim.Native.Nat.{_≤_};
+ghost use lib.ListN.{length};
 ghost use lib.Seq.{sets};
-ghost use Rattle.libc.specs.Io.{Moved};
+ghost use Rattle.specs.specs.Calls.{empty, call};
 ghost use Rattle.checks.specs.Answers.{answerOf};
 ghost use Rattle.lines.specs.Lines.{lineOf};
-ghost use Rattle.report.specs.Report.{Prepared, Put, lent, after, viewOf, next, Turns};
+ghost use Rattle.report.specs.Printed.{asks, lines};
+ghost use Rattle.report.specs.Report.{Prepared, Put, Line, lent, after, viewOf, chunkOf, next, turned, given, Within, Fetched, Ran};
 
-// Where the run stands: the bytes at hand are those of the buffer from `from` to `to`; the entries kept; whether the input's end was seen;
-// and whether there is more to do.
+// Where the run stands: the bytes at hand are those of the buffer from `from` to `to`, and the `came` bytes after them were read for the next
+// turn; the entries kept; whether the input's end was seen; whether there is more to do; and how long the line is that the last turn left.
 struct State {
     from: usize,
     to: usize,
+    came: usize,
     kept: usize,
     ended: bool,
     going: bool,
+    line: usize,
 }
 
-// What is known after a question: the entries kept, and whether its line was written.
+// What a question leaves: the entries kept, and how long its line is.
 struct Answered {
     kept: usize,
+    line: usize,
+}
+
+// How a run ended: where it stood, how many turns were left, and whether each line was written.
+struct Ending {
+    state: State,
+    left: u64,
     written: bool,
-}
-
-// Reads once, into the bytes from `at` on: -1 where that fails, or how many bytes came, 0 at the end.
-fn read_at(fd: i32, bytes: &mut [u8], at: usize) -> isize
-    requires { ⌜ at ≤ length (now bytes) ⌝ }
-    ensures { λ r. ⌜ Moved (length (now (bytes .entry)) - at) r ⌝ }
-    ensures { λ _. ⌜ take at (now (bytes .exit)) ≡ take at (now (bytes .entry)) ⌝ }
-{
-    libc::read(fd, &mut bytes[at..])
-}
-
-// The bytes of a file, as many as there is room for; none where a read fails.
-fn read_file(fd: i32, bytes: &mut [u8]) -> usize
-    ensures { λ r. ⌜ r ≤ length (now (bytes .exit)) ⌝ }
-{
-    let mut n = 0;
-    while n < bytes.len() {
-        let got = read_at(fd, bytes, n);
-        if got < 0 {
-            return 0;
-        }
-        let more = got as usize;
-        if more == 0 {
-            return n;
-        }
-        n += more;
-    }
-    n
-}
-
-// sheet.bin, of which one byte more is read than a sheet may have; none where it cannot be read.
-fn read_sheet(bytes: &mut [u8]) -> usize
-    ensures { λ r. ⌜ r ≤ length (now (bytes .exit)) ⌝ }
-{
-    let fd = os::open_read(b"sheet.bin");
-    if fd < 0 {
-        return 0;
-    }
-    let n = read_file(fd, bytes);
-    libc::close(fd);
-    n
-}
-
-// The bytes at hand are moved to the front of the buffer, and what the input brings is put after them; a read that fails brings nothing.
-fn read_on(input: &mut [u8], from: usize, to: usize) -> usize
-    requires { ⌜ (from ≤ to) × (to ≤ length (now input)) × (to - from < length (now input)) ⌝ }
-    ensures { λ r. ⌜ (to - from ≤ r) × (r ≤ length (now (input .exit))) ⌝ }
-    ensures { λ _. ⌜ take (to - from) (now (input .exit)) ≡ take (to - from) (drop from (now (input .entry))) ⌝ }
-{
-    let held = stream::shift(input, from, to);
-    let got = read_at(STDIN_FILENO, input, held);
-    if got < 0 {
-        return held;
-    }
-    held + got as usize
 }
 
 // The line of an answer.
@@ -121,13 +76,6 @@ fn kept_of(answer: Answer) -> usize
     }
 }
 
-// Prints the line of an answer, and answers whether it was written.
-fn print(answer: Answer) -> bool {
-    let mut line = [0u8; 128];
-    let n = line_of(answer, &mut line);
-    io::write_all(STDOUT_FILENO, &line[..n])
-}
-
 // A question is put to the sheet, with the budget of 1,000,000. A refused sheet has its refusal for each.
 fn ask<'a>(
     check: SheetCheck,
@@ -161,7 +109,7 @@ fn ask<'a>(
     }
 }
 
-// A question is put, and the line of its answer printed.
+// A question is put, and the line of its answer left.
 fn answer<'a>(
     check: SheetCheck,
     sheet: &'a [u8],
@@ -172,10 +120,13 @@ fn answer<'a>(
     links: &mut [u32],
     frames: &mut [u64; 16640],
     forms: &mut [u32; 256],
+    line: &mut [u8; 128],
 ) -> Answered
     requires { ⌜ Prepared check (now sheet) (now index) (now store) kept (now links) ⌝ }
+    requires { ⌜ length (now line) ≡ 128 ⌝ }
     ensures { λ r. ⌜ Prepared check (now (sheet .entry)) (now (index .entry)) (now (store .exit)) (r .kept) (now (links .exit)) ⌝ }
     ensures { λ r. ⌜ lent (now (store .exit)) (r .kept) ≡ after (now (sheet .entry)) (lent (now (store .entry)) kept) (now (question .entry)) ⌝ }
+    ensures { λ r. ⌜ Line (now (line .exit)) (r .line) (lineOf (call (now (sheet .entry)) (lent (now (store .entry)) kept) (asks (now (question .entry))) .answer)) ⌝ }
 {
     let brought = ask(
         check,
@@ -190,31 +141,64 @@ fn answer<'a>(
     );
     Answered {
         kept: kept_of(brought),
-        written: print(brought),
+        line: line_of(brought, line),
     }
 }
 
-// One turn: the next question is answered, or more of the input is read, or the run ends.
-fn turn(
+// Where the bytes at hand are no whole question and the input goes on, more of it is read: they are moved to the front of the buffer, and
+// what comes stands after them.
+fn fetch(input: &mut [u8], s: State) -> State
+    requires { ⌜ Within (now input) s ⌝ }
+    requires { ⌜ 65537 ≤ length (now input) ⌝ }
+    ensures { λ r. ⌜ Fetched (now (input .entry)) (now (input .exit)) s r ⌝ }
+{
+    let from = s.from;
+    let to = s.to;
+    match stream::next_item(&input[from..to], s.ended) {
+        Next::More => {
+            let held = stream::shift(input, from, to);
+            State {
+                from: 0,
+                to: held,
+                came: system::read_input(input, held),
+                kept: s.kept,
+                ended: s.ended,
+                going: s.going,
+                line: s.line,
+            }
+        }
+        _ => s,
+    }
+}
+
+// One turn: the next question is answered, or what was read is taken over, or the run ends.
+fn turn<'a>(
     check: SheetCheck,
-    sheet: &[u8],
+    sheet: &'a [u8],
     index: &[u32],
-    input: &mut [u8],
+    input: &'a [u8],
     store: &mut [u8],
     links: &mut [u32],
     frames: &mut [u64; 16640],
     forms: &mut [u32; 256],
+    line: &mut [u8; 128],
     s: State,
 ) -> State
     requires { ⌜ Prepared check (now sheet) (now index) (now store) (s .kept) (now links) ⌝ }
-    requires { ⌜ (s .from ≤ s .to) × (s .to ≤ length (now input)) × (65537 ≤ length (now input)) ⌝ }
+    requires { ⌜ Within (now input) s ⌝ }
+    requires { ⌜ length (now line) ≡ 128 ⌝ }
     ensures { λ r. ⌜ Prepared check (now (sheet .entry)) (now (index .entry)) (now (store .exit)) (r .kept) (now (links .exit)) ⌝ }
-    ensures { λ r. ⌜ (r .from ≤ r .to) × (r .to ≤ length (now (input .exit))) ⌝ }
-    ensures { λ r. ⌜ Turns (now (sheet .entry)) (viewOf (now (input .entry)) (now (store .entry)) s) (viewOf (now (input .exit)) (now (store .exit)) r)
+    ensures { λ r. ⌜ Within (now (input .entry)) r ⌝ }
+    ensures { λ r. ⌜ viewOf (now (input .entry)) (now (store .exit)) r
+        ≡ turned (now (sheet .entry)) (viewOf (now (input .entry)) (now (store .entry)) s) (chunkOf (now (input .entry)) s)
         (next (viewOf (now (input .entry)) (now (store .entry)) s)) ⌝ }
+    ensures { λ r. ⌜ Line (now (line .exit)) (r .line)
+        (lines (given (now (sheet .entry)) (viewOf (now (input .entry)) (now (store .entry)) s) (next (viewOf (now (input .entry)) (now (store .entry)) s)))) ⌝ }
 {
     let from = s.from;
     let to = s.to;
+    let came = s.came;
+    let read_to = to + came;
     let kept = s.kept;
     let ended = s.ended;
     match stream::next_item(&input[from..to], ended) {
@@ -231,13 +215,16 @@ fn turn(
                 links,
                 frames,
                 forms,
+                line,
             );
             State {
                 from: end,
                 to,
+                came: 0,
                 kept: done.kept,
                 ended,
-                going: done.written,
+                going: true,
+                line: done.line,
             }
         }
         Next::Cut => {
@@ -251,37 +238,41 @@ fn turn(
                 links,
                 frames,
                 forms,
+                line,
             );
             State {
                 from,
                 to,
+                came: 0,
                 kept: done.kept,
                 ended,
                 going: false,
+                line: done.line,
             }
         }
         Next::End => State {
             from,
             to,
+            came: 0,
             kept,
             ended,
             going: false,
+            line: 0,
         },
-        Next::More => {
-            let end = read_on(input, from, to);
-            State {
-                from: 0,
-                to: end,
-                kept,
-                ended: end == to - from,
-                going: true,
-            }
-        }
+        Next::More => State {
+            from,
+            to: read_to,
+            came: 0,
+            kept,
+            ended: came == 0,
+            going: true,
+            line: 0,
+        },
     }
 }
 
-// Turns until the run ends. A proved loop has to end, and nothing says that the input does, so the turns are counted down from a number
-// that no run uses up.
+// Turns until there is no more to do, or a line cannot be written. A proved loop has to end, and nothing says that the input does, so the
+// turns are counted down from a number that no run uses up.
 fn run(
     check: SheetCheck,
     sheet: &[u8],
@@ -291,21 +282,51 @@ fn run(
     links: &mut [u32],
     frames: &mut [u64; 16640],
     forms: &mut [u32; 256],
-)
+) -> Ending
     requires { ⌜ Prepared check (now sheet) (now index) (now store) 0 (now links) ⌝ }
+    requires { ⌜ lent (now store) 0 ≡ empty 1024 ⌝ }
     requires { ⌜ 65537 ≤ length (now input) ⌝ }
+    ensures { λ r. ⌜ Ran (now (sheet .entry)) (viewOf (now (input .exit)) (now (store .exit)) (r .state)) (r .left) (r .written) ⌝ }
 {
     let mut s = State {
         from: 0,
         to: 0,
+        came: 0,
         kept: 0,
         ended: false,
         going: true,
+        line: 0,
     };
+    let mut line = [0u8; 128];
     let mut turns = u64::MAX;
     while turns > 0 && s.going {
-        s = turn(check, sheet, index, input, store, links, frames, forms, s);
+        s = fetch(input, s);
+        s = turn(
+            check,
+            sheet,
+            index,
+            input,
+            store,
+            links,
+            frames,
+            forms,
+            &mut line,
+            s,
+        );
         turns -= 1;
+        let n = s.line;
+        if !system::write_output(&line[..n]) {
+            return Ending {
+                state: s,
+                left: turns,
+                written: false,
+            };
+        }
+    }
+    Ending {
+        state: s,
+        left: turns,
+        written: true,
     }
 }
 
@@ -345,7 +366,7 @@ fn answer_all(sheet: &[u8], index: &mut [u32; 33280]) {
 
 fn main() {
     let mut sheet = [0u8; 65537];
-    let n = read_sheet(&mut sheet);
+    let n = system::read_sheet(&mut sheet);
     let mut index = [0u32; 33280];
     answer_all(&sheet[..n], &mut index);
 }

@@ -1,14 +1,22 @@
-//! The report program, as `rt check` links it: the cases of tests/report, the largest sheet, and made-up sheets and questions against
-//! the second evaluator.
+//! The report program, as `rt check` links it: the cases of tests/report, made-up sheets and questions against the second evaluator, and
+//! what no contract says of it: the file's name and size, the descriptors, and what it makes of reads and writes that fail, wait or are
+//! cut short.
+
+mod traced;
 
 use std::fmt::Write as _;
-use std::fs;
-use std::io::Write as _;
+use std::fs::{self, File};
+use std::io::{Read as _, Write as _};
+use std::os::fd::AsRawFd;
+use std::os::unix::process::CommandExt as _;
 use std::path::{Path, PathBuf};
-use std::process::{Command, Stdio};
+use std::process::{Child, Command, ExitStatus, Stdio};
+use std::thread;
+use std::time::{Duration, Instant};
 
 use oracle::case::bytes;
 use oracle::generate;
+use traced::{Call, Fate};
 
 const ROOT: &str = concat!(env!("CARGO_MANIFEST_DIR"), "/../..");
 
@@ -37,17 +45,30 @@ fn directory(name: &str, sheet: &Sheet) -> PathBuf {
     place
 }
 
+/// The program, to be run in this directory.
+fn program(directory: &Path) -> Command {
+    let file = Path::new(ROOT).join("target/bin/report");
+    assert!(file.exists(), "`rt check report` links target/bin/report");
+    let mut command = Command::new(file);
+    command.current_dir(directory);
+    command
+}
+
 /// What the program prints. The input is written in pieces of these lengths, over and over.
 fn printed(name: &str, sheet: &Sheet, input: &[u8], pieces: &[usize]) -> String {
-    let mut program = Command::new(Path::new(ROOT).join("target/bin/report"))
-        .current_dir(directory(name, sheet))
+    printed_in(&directory(name, sheet), input, pieces)
+}
+
+fn printed_in(place: &Path, input: &[u8], pieces: &[usize]) -> String {
+    let mut run = program(place)
         .stdin(Stdio::piped())
         .stdout(Stdio::piped())
+        .stderr(Stdio::piped())
         .spawn()
-        .expect("target/bin/report, which `rt check report` links");
-    let mut pipe = program.stdin.take().expect("a pipe");
+        .expect("the program");
+    let mut pipe = run.stdin.take().expect("a pipe");
     let (input, pieces) = (input.to_vec(), pieces.to_vec());
-    let writer = std::thread::spawn(move || {
+    let writer = thread::spawn(move || {
         let mut rest = &input[..];
         for piece in pieces.iter().cycle() {
             let (now, later) = rest.split_at(rest.len().min(*piece));
@@ -58,10 +79,32 @@ fn printed(name: &str, sheet: &Sheet, input: &[u8], pieces: &[usize]) -> String 
             rest = later;
         }
     });
-    let output = program.wait_with_output().expect("the program's output");
+    let output = run.wait_with_output().expect("the program's output");
     writer.join().expect("the input is written");
-    assert!(output.status.success(), "{name}: {}", output.status);
+    assert!(
+        output.status.success(),
+        "{}: {}",
+        place.display(),
+        output.status
+    );
+    assert!(output.stderr.is_empty(), "lines go to standard output only");
     String::from_utf8(output.stdout).expect("text")
+}
+
+/// The sheet of document 01.
+fn sheet_l() -> Vec<u8> {
+    fs::read(Path::new(ROOT).join("crates/report/data/sheet.bin")).expect("sheet L")
+}
+
+/// Node 1's dial, as the input has it, so many times, and the lines that sheet L has for them.
+fn dials(times: usize) -> (Vec<u8>, String) {
+    let lines = ["0 0 2 700 8 5\n"]
+        .into_iter()
+        .chain(std::iter::repeat("0 0 2 700 1 5\n"));
+    (
+        framed(&[0x22, 2, 0x13, 1, 0, 0x10]).repeat(times),
+        lines.take(times).collect(),
+    )
 }
 
 /// Bytes in hexadecimal, and BYTES*N for those bytes N times.
@@ -88,12 +131,7 @@ fn the_cases_print_what_they_say() {
             match line.split_once(' ') {
                 Some(("sheet", "missing")) => sheet = Sheet::Missing,
                 Some(("sheet", "directory")) => sheet = Sheet::Directory,
-                Some(("sheet", "L")) => {
-                    sheet = Sheet::File(
-                        fs::read(Path::new(ROOT).join("crates/report/data/sheet.bin"))
-                            .expect("sheet L"),
-                    )
-                }
+                Some(("sheet", "L")) => sheet = Sheet::File(sheet_l()),
                 Some(("sheet", text)) => sheet = Sheet::File(spelt(text)),
                 Some(("input", text)) => input.extend(spelt(text)),
                 Some(("prints", text)) => writeln!(prints, "{text}").expect("text"),
@@ -150,8 +188,35 @@ fn the_largest_sheet_is_told_from_one_byte_more() {
         )
     };
     assert_eq!(run(&sheet), "0 0 0 0 1 1\n");
-    sheet.push(0x5A);
-    assert_eq!(run(&sheet), "1 0 0 0 0 0\n");
+    for longer in [65_537, 65_538, 200_000] {
+        sheet.resize(longer, 0x5A);
+        assert_eq!(run(&sheet), "1 0 0 0 0 0\n", "{longer}");
+    }
+}
+
+#[test]
+fn only_the_file_sheet_bin_is_the_sheet() {
+    let (input, lines) = dials(2);
+    let place = directory("name", &Sheet::Missing);
+    for other in [
+        "sheet",
+        "Sheet.bin",
+        "SHEET.BIN",
+        "sheet.bin.bak",
+        "sheet.dat",
+        "sheets.bin",
+        "sheet.bi",
+        "0",
+        "-",
+    ] {
+        fs::write(place.join(other), sheet_l()).expect("a file");
+    }
+    assert_eq!(
+        printed_in(&place, &input, &[usize::MAX]),
+        "2 0 0 0 0 0\n".repeat(2)
+    );
+    fs::write(place.join("sheet.bin"), sheet_l()).expect("a file");
+    assert_eq!(printed_in(&place, &input, &[usize::MAX]), lines);
 }
 
 #[test]
@@ -187,4 +252,207 @@ fn generated_inputs_print_the_second_evaluators_answers() {
         assert_eq!(printed, expected, "case {number}");
     }
     assert!(lines > 1_000);
+}
+
+/// What the program prints of sheet L and this input where its calls fare so. Standard input and output are files.
+fn traced_run(name: &str, input: &[u8], fate: impl FnMut(&Call) -> Fate) -> String {
+    let place = directory(name, &Sheet::File(sheet_l()));
+    fs::write(place.join("input"), input).expect("a file");
+    let status = traced::run(
+        program(&place)
+            .stdin(File::open(place.join("input")).expect("a file"))
+            .stdout(File::create(place.join("output")).expect("a file")),
+        fate,
+    );
+    assert!(status.success(), "{name}: {status}");
+    fs::read_to_string(place.join("output")).expect("text")
+}
+
+/// Whether a call reads the sheet, and not a library, of which the loader reads little at a time.
+fn reads_sheet(call: &Call) -> bool {
+    !call.writes && call.descriptor > 2 && call.count > 60_000
+}
+
+#[test]
+fn a_sheet_whose_read_fails_after_some_bytes_counts_as_empty() {
+    let (input, _) = dials(2);
+    // The first read brings all of the sheet, or a part of it.
+    for part in [sheet_l().len() as u64, 50] {
+        let mut reads = 0;
+        let printed = traced_run("failing-sheet", &input, |call| {
+            reads += u64::from(reads_sheet(call));
+            match reads {
+                1 if reads_sheet(call) => Fate::Cut(part),
+                2 if reads_sheet(call) => {
+                    assert_eq!(call.count, 65_537 - part);
+                    Fate::Fails(traced::EIO)
+                }
+                _ => Fate::Made,
+            }
+        });
+        assert_eq!(printed, "2 0 0 0 0 0\n".repeat(2));
+        assert_eq!(reads, 2);
+    }
+}
+
+#[test]
+fn interrupted_and_short_calls_change_nothing() {
+    let (input, lines) = dials(40);
+    let mut calls = 0;
+    let printed = traced_run("interrupted", &input, |call| {
+        if call.descriptor > 1 && !reads_sheet(call) {
+            return Fate::Made;
+        }
+        calls += 1;
+        match calls % 4 {
+            0 => Fate::Fails(traced::EINTR),
+            2 => Fate::Fails(traced::EAGAIN),
+            _ => Fate::Cut(1 + calls % 7),
+        }
+    });
+    assert_eq!(printed, lines);
+    assert!(calls > 200);
+}
+
+#[test]
+fn a_read_of_standard_input_that_fails_is_its_end() {
+    let (input, lines) = dials(3);
+    let mut reads = 0;
+    let printed = traced_run("failing-input", &input, |call| {
+        reads += u32::from(call.descriptor == 0);
+        match (call.descriptor, reads) {
+            (0, 1) => Fate::Cut(20),
+            (0, _) => Fate::Fails(traced::EIO),
+            _ => Fate::Made,
+        }
+    });
+    // Two questions came whole, and the third is cut.
+    let cut = "12 0 0 0 0 5\n";
+    assert_eq!(printed, lines[..28].to_string() + cut);
+    assert_eq!(reads, 2);
+}
+
+#[test]
+fn a_line_that_cannot_be_written_ends_the_run() {
+    let (input, lines) = dials(30);
+    let (mut writes, mut reads) = (0, 0);
+    let printed = traced_run("failing-output", &input, |call| {
+        reads += u32::from(call.descriptor == 0);
+        writes += u32::from(call.descriptor == 1);
+        match (call.descriptor, writes) {
+            (1, 5) => Fate::Fails(traced::EIO),
+            _ => Fate::Made,
+        }
+    });
+    assert_eq!(printed, lines[..4 * 14]);
+    assert_eq!((writes, reads), (5, 1));
+}
+
+unsafe extern "C" {
+    fn fcntl(descriptor: i32, command: i32, value: i32) -> i32;
+    fn signal(number: i32, handler: usize) -> usize;
+    fn close(descriptor: i32) -> i32;
+}
+
+/// A descriptor of this pipe's end does not wait, in the program that inherits it either.
+fn does_not_wait(end: &impl AsRawFd) {
+    const F_SETFL: i32 = 4;
+    const O_NONBLOCK: i32 = 0o4000;
+    assert_eq!(unsafe { fcntl(end.as_raw_fd(), F_SETFL, O_NONBLOCK) }, 0);
+}
+
+/// A pipe holds only so many bytes.
+fn holds(end: &impl AsRawFd, bytes: i32) {
+    const F_SETPIPE_SZ: i32 = 1031;
+    assert!(unsafe { fcntl(end.as_raw_fd(), F_SETPIPE_SZ, bytes) } >= bytes);
+}
+
+/// The status of a program that ends by itself, within ten seconds.
+fn ends(run: &mut Child) -> ExitStatus {
+    let began = Instant::now();
+    loop {
+        if let Some(status) = run.try_wait().expect("a status") {
+            return status;
+        }
+        if began.elapsed() > Duration::from_secs(10) {
+            run.kill().expect("a program");
+            run.wait().expect("a status");
+            panic!("the run has not ended");
+        }
+        thread::sleep(Duration::from_millis(5));
+    }
+}
+
+#[test]
+fn an_input_that_does_not_wait_is_waited_for() {
+    let (input, lines) = dials(12);
+    let (reader, mut writer) = std::io::pipe().expect("a pipe");
+    does_not_wait(&reader);
+    let run = program(&directory("slow-input", &Sheet::File(sheet_l())))
+        .stdin(reader)
+        .stdout(Stdio::piped())
+        .spawn()
+        .expect("the program");
+    for piece in input.chunks(5) {
+        thread::sleep(Duration::from_millis(20));
+        writer.write_all(piece).expect("a run that goes on");
+    }
+    drop(writer);
+    let output = run.wait_with_output().expect("the program's output");
+    assert!(output.status.success());
+    assert_eq!(String::from_utf8(output.stdout).expect("text"), lines);
+}
+
+#[test]
+fn an_output_that_does_not_wait_is_waited_for() {
+    let (input, lines) = dials(3_000);
+    let (mut reader, writer) = std::io::pipe().expect("a pipe");
+    does_not_wait(&writer);
+    holds(&writer, 4_096);
+    let place = directory("slow-output", &Sheet::File(sheet_l()));
+    fs::write(place.join("input"), input).expect("a file");
+    let mut run = program(&place)
+        .stdin(File::open(place.join("input")).expect("a file"))
+        .stdout(writer)
+        .spawn()
+        .expect("the program");
+    let (mut read, mut piece) = (Vec::new(), [0; 1_500]);
+    loop {
+        // The pipe is full long before the program has printed all.
+        thread::sleep(Duration::from_millis(10));
+        match reader.read(&mut piece).expect("bytes") {
+            0 => break,
+            n => read.extend(&piece[..n]),
+        }
+    }
+    assert!(ends(&mut run).success());
+    assert_eq!(String::from_utf8(read).expect("text"), lines);
+}
+
+#[test]
+fn an_output_that_nobody_reads_ends_the_run() {
+    const SIGPIPE: i32 = 13;
+    const IGNORED: usize = 1;
+    let (input, _) = dials(5);
+    for closed in [true, false] {
+        let (reader, writer) = std::io::pipe().expect("a pipe");
+        let (input_reader, mut input_writer) = std::io::pipe().expect("a pipe");
+        let mut command = program(&directory("no-output", &Sheet::File(sheet_l())));
+        command.stdin(input_reader).stdout(writer);
+        let quiet = move || unsafe {
+            signal(SIGPIPE, IGNORED);
+            if closed {
+                close(1);
+            }
+            Ok(())
+        };
+        let mut run = unsafe { command.pre_exec(quiet) }
+            .spawn()
+            .expect("the program");
+        drop((reader, command));
+        input_writer.write_all(&input).expect("a pipe");
+        // The input is still open, and the run ends all the same.
+        assert!(ends(&mut run).success());
+        drop(input_writer);
+    }
 }

@@ -1,4 +1,5 @@
 -- The buffer has room for the largest question.
+use mathlib.Core.Path.{refl}
 use lib.Dec.{lit≤}
 use lib.ListN.{length-replicate}
 use borrow.Author.Needs.{needs}
@@ -24,7 +25,10 @@ slice-aggregate-run-3 : tie.Need-slice-aggregate-run-3
 slice-aggregate-run-3 c = search needs
 
 run-requires : tie.Need-run-requires
-run-requires c κs = (c .before .before .before .before .before .before .before .before .prepare .ensures, rw length-replicate (lit≤ tt))
+run-requires c κs =
+    let at-store2 = c .before .before .before in
+    let at-run-arg = at-store2 .before .before .before in
+    (at-run-arg .before .before .prepare .ensures, (refl, rw length-replicate (lit≤ tt)))
 
 returns : tie.Need-returns
 returns c = search needs

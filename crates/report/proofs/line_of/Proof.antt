@@ -32,7 +32,9 @@ line-requires-2 c κs = search needs
 
 returns : tie.Need-returns
 unfolding answerOf
-returns c = rw (c .before .before .before .before .before .answer .given .1, ← c .before .before .before .type-code .ensures, ← c .before .before .decimal .ensures) (rw (read-back w64 _ (c .before .before .decimal .ok)) at (c .line .ensures))
+returns c =
+    let at-type-code = c .before .before .before in
+    rw (at-type-code .before .before .answer .given .1, ← c .before .before .before .type-code .ensures, ← c .before .before .decimal .ensures) (rw (read-back w64 _ (c .before .before .decimal .ok)) at (c .line .ensures))
 
 returns-2 : tie.Need-returns-2
 unfolding answerOf

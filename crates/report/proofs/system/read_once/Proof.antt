@@ -6,8 +6,8 @@ use borrow.Rule.Slice.PartMut.{take-put, mid-len}
 use borrow.Author.Needs.{needs}
 use mir.Syntax.{w64}
 use Rattle.values.proofs.Integers.{read-back}
-use Rattle.report.proofs.read_at.Statement.{statement}
-use Rattle.report.proofs.read_at.Tie as tie
+use Rattle.report.proofs.system.read_once.Statement.{statement}
+use Rattle.report.proofs.system.read_once.Tie as tie
 
 sub-read : tie.Need-sub-read
 sub-read c = search needs
@@ -25,10 +25,12 @@ same-length : tie.Need-same-length
 same-length c = search needs
 
 returns : tie.Need-returns
-returns c = let at = c .before .before .before .before .before .args .at in
-    let bytes = c .before .before .before .before .before .args .bytes .now in
-    (rw (read-back w64 _ (c .before .before .read .ok)) (rw (mid-len at (length bytes) bytes (le-refl _)) at (c .before .before .read .ensures)), take-put at (length bytes - at) bytes (c .before .before .read .last .1 .0) (c .before .before .before .before .before .pre))
+returns c =
+    let at-read-arg = c .before .before .before in
+    let at = at-read-arg .before .before .args .at in
+    let bytes = at-read-arg .before .before .args .bytes .now in
+    (rw (read-back w64 _ (c .before .before .read .ok)) (rw (mid-len at (length bytes) bytes (le-refl _)) at (c .before .before .read .ensures)), take-put at (length bytes - at) bytes (c .before .before .read .last .1 .0) (at-read-arg .before .before .pre))
 
-pub read-at-spec : {M : Type 1} → statement M
-read-at-spec =
+pub read-once-spec : {M : Type 1} → statement M
+read-once-spec =
     tie.close (tie.spec sub-read part-read-start part-read-end read-requires same-length returns)
