@@ -25,7 +25,7 @@ use Rattle.stores.specs.declared.StoreCheck.the-variants as for-store
 use Rattle.stores.specs.Keys.{storeCheckOf, StoreChecked}
 use Rattle.checks.specs.declared.Verdict.{Verdict}
 use Rattle.checks.specs.declared.Verdict.the-variants.{Refused, Accepted}
-use Rattle.checks.specs.Prepared.{PreparedSheet}
+use Rattle.checks.specs.Prepared.{PreparedSheet, PreparedStore}
 use Rattle.checks.specs.Verdict.{verdictOf, SheetOf, fromBudget, fromStore, FromStore, CallChecked}
 
 -- one constructor is no other
@@ -107,6 +107,11 @@ pub from-sheet : (sheet store : List ℕ) (kept : ℕ) (question : List ℕ) (bu
 unfolding checkCall _then-check_
 from-sheet sheet store kept question budget accepts = rw accepts
 
+pub refused-by-sheet : (sheet store : List ℕ) (kept : ℕ) (question : List ℕ) (budget : ℕ) {number place : ℕ} → checkSheet sheet ≡ refused number place
+    → checkCall sheet store kept question budget ≡ refused number place
+unfolding checkCall _then-check_
+refused-by-sheet sheet store kept question budget refuses = rw refuses
+
 -- ---- The store
 
 module _ {types : List ℕ} {attributes nodes : ℕ} {store : List ℕ} {kept : ℕ} (question : List ℕ) (budget : ℕ) {links : List ℕ} {r : StoreCheck}
@@ -178,6 +183,20 @@ module _ {sheet index : List ℕ} {attributes nodes : ℕ} (p : PreparedSheet sh
   pub same-sheet : (s : Sheet) → checkSheet sheet ≡ accepted s → p .of ≡ s
   same-sheet s e = let same : accepted (p .of) ≡ accepted s = sym (p .accepts) ∙ e in cc
 
+  -- a store that passed the check is prepared
+  pub store-prepared : {store : List ℕ} {kept : ℕ} {links : List ℕ} {r : StoreCheck} → StoreChecked sheet attributes nodes store kept links r → r ≡ for-store.Accepted
+      → PreparedStore sheet store kept links
+  unfolding storeCheckOf
+  store-prepared {store} {kept} {links} {r} checked is =
+      record { passes = λ s e. rw (same-sheet s e) at (go (checkStore (p .of) store kept) answer); linked = checked .linked is }
+    where
+      answer : for-store.Accepted ≡ storeCheckOf (checkStore (p .of) store kept)
+      answer = sym is ∙ checked .answer (p .of) (sheet-of .attributes-are) (p .nodes-are)
+
+      go : (C : Checked (List Entry)) → for-store.Accepted ≡ storeCheckOf C → (entries : List Entry) × (C ≡ accepted entries)
+      go (refused n q) e = other cc
+      go (accepted entries) e = (entries, refl)
+
 module _ {sheet index : List ℕ} {r : SheetCheck} (checked : Checks sheet r index) where
   pub sheet-prepared : {attributes nodes : ℕ} → r ≡ for-sheet.Accepted attributes nodes → PreparedSheet sheet index attributes nodes
   unfolding checkOf
@@ -198,11 +217,11 @@ module _ {sheet index : List ℕ} {r : SheetCheck} (checked : Checks sheet r ind
   module _ (store : List ℕ) (kept : ℕ) (question : List ℕ) (budget : ℕ) {links : List ℕ} where
     pub sheet-stops : {number place : ℕ} → r ≡ for-sheet.Refused number place → length links ≡ 2048
         → CallChecked sheet store kept question budget index links (Refused number place)
-    unfolding checkCall verdictOf _then-check_
+    unfolding verdictOf
     sheet-stops {number} {place} h links-size =
         let is = sheet-refused h in
         record {
-          answer = rw is;
+          answer = ap verdictOf (sym (refused-by-sheet sheet store kept question budget is));
           scratch = record {
             index-length = checked .size;
             indexed = checked .indexes;

@@ -11,7 +11,7 @@ use Rattle.sheets.specs.declared.SheetCheck.{SheetCheck}
 use Rattle.sheets.specs.declared.SheetCheck.the-variants.{Refused, Accepted}
 use Rattle.stores.specs.Keys.{storeCheckOf, StoreChecked}
 use Rattle.stores.specs.declared.StoreCheck.{StoreCheck}
-use Rattle.calls.proofs.Preparing.{sheet-prepared, sheet-of, store-prepared}
+use Rattle.checks.proofs.Laws.{sheet-prepared, sheet-of, store-prepared}
 use Rattle.report.specs.Report.{Prepared}
 
 -- a store of 1,024 entries, of which none is kept

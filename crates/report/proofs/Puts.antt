@@ -10,8 +10,9 @@ use Rattle.specs.specs.Calls.{leaves, call}
 use Rattle.sheets.specs.declared.SheetCheck.{SheetCheck}
 use Rattle.sheets.specs.declared.SheetCheck.the-variants.{Refused}
 use Rattle.checks.specs.Answers.{answerOf}
-use Rattle.calls.specs.Prepared.{PreparedStore}
-use Rattle.calls.proofs.Preparing.{refuses, sheet-refused}
+use Rattle.checks.specs.Prepared.{PreparedStore}
+use Rattle.checks.proofs.Laws.{sheet-refused, refused-by-sheet}
+use Rattle.calls.proofs.Preparing.{refuses}
 use Rattle.lines.specs.Lines.{lineOf}
 use Rattle.report.specs.Printed.{asks}
 use Rattle.report.specs.Report.{Prepared, Put, Line, lent, after}
@@ -21,7 +22,7 @@ module _ {check : SheetCheck} {sheet index store : List ℕ} {kept : ℕ} {links
   pub put-refused : {number place : ℕ} {r : Declared.Answer} (question : List ℕ) → check ≡ Refused number place → answerOf r ≡ refusal [] kept number place .answer
       → Put check sheet index question store kept store links r
   put-refused {number} {place} {r} question e a =
-      let same = refuses sheet store question kept 1000000 number place r (sheet-refused (p .checked) store question kept 1000000 e) a in
+      let same = refuses sheet store question kept 1000000 r (refused-by-sheet sheet store kept question 1000000 (sheet-refused (p .checked) e)) a in
       record {
         answer = same .0;
         store-is = same .1;

@@ -12,7 +12,7 @@ use Rattle.sheets.specs.Scan.{Checks}
 use Rattle.sheets.specs.declared.SheetCheck.{SheetCheck}
 use Rattle.sheets.specs.declared.SheetCheck.the-variants.{Accepted}
 use Rattle.checks.specs.Answers.{answerOf}
-use Rattle.calls.specs.Prepared.{PreparedStore}
+use Rattle.checks.specs.Prepared.{PreparedStore}
 use Rattle.stream.specs.declared.Next.{Next}
 use Rattle.stream.specs.declared.Next.the-variants.{Question, Cut, End, More}
 use Rattle.stream.specs.Stream.{front}

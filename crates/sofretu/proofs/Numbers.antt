@@ -18,7 +18,7 @@ use Rattle.stores.specs.declared.StoreCheck.{StoreCheck}
 use Rattle.stores.specs.declared.StoreCheck.the-variants as for-store
 use Rattle.stores.specs.Keys.{storeCheckOf, StoreChecked}
 use Rattle.checks.specs.Prepared.{PreparedSheet}
-use Rattle.checks.proofs.Laws.{sheet-prepared, sheet-of, attributes-fit, same-sheet}
+use Rattle.checks.proofs.Laws.{sheet-prepared, sheet-of, attributes-fit, store-prepared}
 use Rattle.sofretu.specs.Check.{numberOf, placeOf, sheetFound, declaring, StoreFound}
 
 -- ---- The sheet
@@ -103,10 +103,7 @@ module _ {sheet : List ℕ} (attributes : ℕ) {stand nodes : ℕ} {store : List
         number-is = says read answer-is .0;
         place-is = says read answer-is .1;
         of-sheet = λ index p. says (checkStore (p .of) store kept) (of-sheet p);
-        prepared = λ index p z. record {
-          passes = λ s e. passing s store kept (sym (says (checkStore s store kept) (rw (same-sheet p s e) at (of-sheet p)) .0) ∙ z);
-          linked = checked .linked (none z);
-        };
+        prepared = λ index p z. store-prepared p (rw (all-stand p) at checked) (none z);
         links-length = checked .size;
       }
 

@@ -1,6 +1,6 @@
 -- A refused sheet and an accepted one (Puts.antt).
 use borrow.Author.Needs.{needs}
-use Rattle.calls.proofs.Preparing.{sheet-prepared}
+use Rattle.checks.proofs.Laws.{sheet-prepared}
 use Rattle.report.proofs.Puts.{put-refused, put-accepted}
 use Rattle.report.proofs.ask.Statement.{statement}
 use Rattle.report.proofs.ask.Tie as tie
@@ -42,7 +42,7 @@ returns-2 c =
     let at-known-told2 = at-ask-checked-arg3 .before .before .before in
     let at-slice-known2 = at-known-told2 .before .before .before in
     let at-shared-slice-known2 = at-slice-known2 .before .before .before in
-    let e = at-store .before .ask-checked .ensures in put-accepted (at-shared-slice-known2 .before .before .pre) (e .0) (e .1 .0) (e .1 .1)
+    let e = at-store .before .ask-checked .ensures in put-accepted (at-shared-slice-known2 .before .before .pre) (e .0) (e .1 .0) (e .1 .1 .0)
 
 pub ask-spec : {M : Type 1} → statement M
 ask-spec =

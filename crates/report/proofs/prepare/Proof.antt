@@ -1,6 +1,6 @@
 -- The sheet, and the store of which nothing is kept (Preparing.antt).
 use borrow.Author.Needs.{needs}
-use Rattle.calls.proofs.Preparing.{sheet-prepared, attributes-fit}
+use Rattle.checks.proofs.Laws.{sheet-prepared, attributes-fit}
 use Rattle.report.proofs.Preparing.{prepared-refused, prepared-accepted}
 use Rattle.report.proofs.prepare.Statement.{statement}
 use Rattle.report.proofs.prepare.Tie as tie
