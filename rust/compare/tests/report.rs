@@ -6,12 +6,12 @@ mod traced;
 
 use std::fmt::Write as _;
 use std::fs::{self, File};
-use std::io::{Read as _, Write as _};
+use std::io::{Read, Write as _};
 use std::os::fd::AsRawFd;
 use std::os::unix::process::CommandExt as _;
 use std::path::{Path, PathBuf};
 use std::process::{Child, Command, ExitStatus, Stdio};
-use std::thread;
+use std::thread::{self, JoinHandle};
 use std::time::{Duration, Instant};
 
 use oracle::case::bytes;
@@ -54,6 +54,23 @@ fn program(directory: &Path) -> Command {
     command
 }
 
+/// The status of a program that ends by itself within a minute, while this is done again and again.
+fn ends(run: &mut Child, mut meanwhile: impl FnMut()) -> ExitStatus {
+    let began = Instant::now();
+    loop {
+        if let Some(status) = run.try_wait().expect("a status") {
+            return status;
+        }
+        if began.elapsed() > Duration::from_secs(60) {
+            run.kill().expect("a program");
+            run.wait().expect("a status");
+            panic!("the run has not ended");
+        }
+        meanwhile();
+        thread::sleep(Duration::from_millis(1));
+    }
+}
+
 /// What the program prints. The input is written in pieces of these lengths, over and over.
 fn printed(name: &str, sheet: &Sheet, input: &[u8], pieces: &[usize]) -> String {
     printed_in(&directory(name, sheet), input, pieces)
@@ -79,16 +96,23 @@ fn printed_in(place: &Path, input: &[u8], pieces: &[usize]) -> String {
             rest = later;
         }
     });
-    let output = run.wait_with_output().expect("the program's output");
+    let output = all_of(run.stdout.take().expect("a pipe"));
+    let errors = all_of(run.stderr.take().expect("a pipe"));
+    let status = ends(&mut run, || ());
     writer.join().expect("the input is written");
-    assert!(
-        output.status.success(),
-        "{}: {}",
-        place.display(),
-        output.status
-    );
-    assert!(output.stderr.is_empty(), "lines go to standard output only");
-    String::from_utf8(output.stdout).expect("text")
+    assert!(status.success(), "{}: {status}", place.display());
+    let text = |reader: JoinHandle<String>| reader.join().expect("text");
+    assert_eq!(text(errors), "", "lines go to standard output only");
+    text(output)
+}
+
+/// All that comes through a pipe, read meanwhile.
+fn all_of(mut pipe: impl Read + Send + 'static) -> JoinHandle<String> {
+    thread::spawn(move || {
+        let mut text = String::new();
+        pipe.read_to_string(&mut text).expect("text");
+        text
+    })
 }
 
 /// The sheet of document 01.
@@ -367,40 +391,24 @@ fn holds(end: &impl AsRawFd, bytes: i32) {
     assert!(unsafe { fcntl(end.as_raw_fd(), F_SETPIPE_SZ, bytes) } >= bytes);
 }
 
-/// The status of a program that ends by itself, within ten seconds.
-fn ends(run: &mut Child) -> ExitStatus {
-    let began = Instant::now();
-    loop {
-        if let Some(status) = run.try_wait().expect("a status") {
-            return status;
-        }
-        if began.elapsed() > Duration::from_secs(10) {
-            run.kill().expect("a program");
-            run.wait().expect("a status");
-            panic!("the run has not ended");
-        }
-        thread::sleep(Duration::from_millis(5));
-    }
-}
-
 #[test]
 fn an_input_that_does_not_wait_is_waited_for() {
     let (input, lines) = dials(12);
     let (reader, mut writer) = std::io::pipe().expect("a pipe");
     does_not_wait(&reader);
-    let run = program(&directory("slow-input", &Sheet::File(sheet_l())))
+    let mut run = program(&directory("slow-input", &Sheet::File(sheet_l())))
         .stdin(reader)
         .stdout(Stdio::piped())
         .spawn()
         .expect("the program");
+    let output = all_of(run.stdout.take().expect("a pipe"));
     for piece in input.chunks(5) {
         thread::sleep(Duration::from_millis(20));
         writer.write_all(piece).expect("a run that goes on");
     }
     drop(writer);
-    let output = run.wait_with_output().expect("the program's output");
-    assert!(output.status.success());
-    assert_eq!(String::from_utf8(output.stdout).expect("text"), lines);
+    assert!(ends(&mut run, || ()).success());
+    assert_eq!(output.join().expect("text"), lines);
 }
 
 #[test]
@@ -425,7 +433,7 @@ fn an_output_that_does_not_wait_is_waited_for() {
             n => read.extend(&piece[..n]),
         }
     }
-    assert!(ends(&mut run).success());
+    assert!(ends(&mut run, || ()).success());
     assert_eq!(String::from_utf8(read).expect("text"), lines);
 }
 
@@ -433,7 +441,7 @@ fn an_output_that_does_not_wait_is_waited_for() {
 fn an_output_that_nobody_reads_ends_the_run() {
     const SIGPIPE: i32 = 13;
     const IGNORED: usize = 1;
-    let (input, _) = dials(5);
+    let (question, _) = dials(1);
     for closed in [true, false] {
         let (reader, writer) = std::io::pipe().expect("a pipe");
         let (input_reader, mut input_writer) = std::io::pipe().expect("a pipe");
@@ -450,9 +458,10 @@ fn an_output_that_nobody_reads_ends_the_run() {
             .spawn()
             .expect("the program");
         drop((reader, command));
-        input_writer.write_all(&input).expect("a pipe");
-        // The input is still open, and the run ends all the same.
-        assert!(ends(&mut run).success());
-        drop(input_writer);
+        // The input goes on, and the run ends all the same.
+        let status = ends(&mut run, || {
+            let _ = input_writer.write_all(&question);
+        });
+        assert!(status.success(), "{status}");
     }
 }

@@ -66,7 +66,7 @@ fn request(request: i32, pid: i32, data: usize) {
     assert_eq!(answer, 0, "ptrace: {}", std::io::Error::last_os_error());
 }
 
-/// Runs the program to its end. A test in which ptrace is refused fails.
+/// Runs the program to its end, which comes within 100,000 calls. A test in which ptrace is refused fails.
 pub fn run(command: &mut Command, mut fate: impl FnMut(&Call) -> Fate) -> ExitStatus {
     let traced = || match unsafe { ptrace(TRACEME, 0, 0, 0) } {
         0 => Ok(()),
@@ -78,7 +78,7 @@ pub fn run(command: &mut Command, mut fate: impl FnMut(&Call) -> Fate) -> ExitSt
     request(SETOPTIONS, pid, TRACESYSGOOD_AND_EXITKILL);
     // What stood in the register of the count before a call that was changed, and the error that it answers.
     let mut changed: Option<(u64, Option<i32>)> = None;
-    let (mut enters, mut signal) = (true, 0);
+    let (mut enters, mut signal, mut calls) = (true, 0, 0);
     loop {
         request(SYSCALL, pid, signal as usize);
         let status = wait(pid);
@@ -93,6 +93,8 @@ pub fn run(command: &mut Command, mut fate: impl FnMut(&Call) -> Fate) -> ExitSt
         let mut now = Registers::default();
         request(GETREGS, pid, &raw mut now as usize);
         if enters && now.orig_rax <= 1 {
+            calls += 1;
+            assert!(calls < 100_000, "the run does not end");
             let call = Call {
                 writes: now.orig_rax == 1,
                 descriptor: now.rdi,
