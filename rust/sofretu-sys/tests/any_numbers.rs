@@ -43,7 +43,10 @@ struct Numbers(u64);
 
 impl Numbers {
     fn below(&mut self, bound: u64) -> u64 {
-        self.0 = self.0.wrapping_mul(6_364_136_223_846_793_005).wrapping_add(1_442_695_040_888_963_407);
+        self.0 = self
+            .0
+            .wrapping_mul(6_364_136_223_846_793_005)
+            .wrapping_add(1_442_695_040_888_963_407);
         (self.0 >> 33) % bound
     }
 }
@@ -54,14 +57,20 @@ fn any_numbers_are_answered_as_the_header_says() {
     let mut links = [0; LINKS];
     let mut met = [0; 11];
     for _ in 0..40_000 {
-        let sheet: Vec<u8> = (0..numbers.below(20)).map(|_| numbers.below(5) as u8).collect();
+        let sheet: Vec<u8> = (0..numbers.below(20))
+            .map(|_| numbers.below(5) as u8)
+            .collect();
         let entries = numbers.below(4);
         let mut store = Vec::new();
         for _ in 0..entries {
             let value = [numbers.below(3) as u8, 0, 0, 0];
             store.extend([numbers.below(2) as u8, 0, numbers.below(3) as u8, 0]);
             store.extend([numbers.below(2) as u8, 0, 0, 0]);
-            store.extend(if numbers.below(8) == 0 { [255, 255, 0, 0] } else { value });
+            store.extend(if numbers.below(8) == 0 {
+                [255, 255, 0, 0]
+            } else {
+                value
+            });
         }
         if numbers.below(20) == 0 {
             store.push(0);
@@ -72,8 +81,14 @@ fn any_numbers_are_answered_as_the_header_says() {
         let kept = numbers.below(entries + 2);
         let found = check_store(&sheet, attributes, nodes, &store, kept, &mut links);
         let expected = said(&sheet, attributes, nodes, &store, kept);
-        assert_eq!(found, expected, "{sheet:?} {attributes} {nodes} {store:?} {kept}");
+        assert_eq!(
+            found, expected,
+            "{sheet:?} {attributes} {nodes} {store:?} {kept}"
+        );
         met[found.0 as usize] += 1;
     }
-    assert!(met[0] > 1_000 && met[9] > 1_000 && met[10] > 1_000, "{met:?}");
+    assert!(
+        met[0] > 1_000 && met[9] > 1_000 && met[10] > 1_000,
+        "{met:?}"
+    );
 }
