@@ -12,7 +12,7 @@ use Rattle.specs.specs.Ask.{Answer}
 use Rattle.stream.specs.declared.Next.{Next}
 use Rattle.stream.specs.declared.Next.the-variants.{Question, Cut, End, More}
 use Rattle.stream.proofs.Items.{told}
-use Rattle.report.specs.Report.{View, next, turned, taken, Turns, none, one-more, Ran}
+use Rattle.report.specs.Report.{View, next, turnedBy, takenBy, Turns, none, one-more, Ran}
 
 two : Bool → ℕ
 two true = 2
@@ -26,8 +26,8 @@ module _ (sheet : List ℕ) (k : ℕ) (input : List ℕ) (v : View) (chunk : Lis
   unfolding two
   bound = let e : two (not (v .going)) ≡ 0 = ap (λ b. two (not b)) going in omega (arith, few)
 
-  few-after : (r : Next) → r ≡ next v → Few (suc k) (length (input ++ taken chunk r)) (turned sheet v chunk r)
-  unfolding turned taken two
+  few-after : (r : Next) → r ≡ next v → Few (suc k) (length (input ++ takenBy chunk r)) (turnedBy sheet v chunk r)
+  unfolding turnedBy takenBy two
   few-after (Question n) e = rw (append-nil, length-drop) (omega (arith, bound, told (v .hand) (v .ended) (Question n) e .0))
   few-after Cut e = rw append-nil (omega (arith, bound))
   few-after End e = rw append-nil (omega (arith, bound))

@@ -11,7 +11,7 @@ use Rattle.specs.specs.Ask.{Answer}
 use Rattle.specs.specs.Calls.{empty}
 use Rattle.sheets.specs.declared.SheetCheck.{SheetCheck}
 use Rattle.report.specs.declared.State.{State}
-use Rattle.report.specs.Report.{Prepared, Line, lent, viewOf, chunkOf, next, turned, Within, Fetched, Turns, none, one-more, Ran}
+use Rattle.report.specs.Report.{Prepared, Line, lent, viewOf, chunkOf, turned, Within, Fetched, Turns, none, one-more, Ran}
 use Rattle.report.proofs.Turns.{view}
 
 -- so many turns, with those that are left, are all that the loop may make
@@ -50,7 +50,7 @@ still-prepared {check} {sheet} {index} {store} {links} p f = subst (λ k. Prepar
 
 -- one turn more
 pub made-one : {sheet input input' store store' : List ℕ} {s s' r : State} {left : ℕ} → Made sheet input store s left → s .going ≡ true → Fetched input input' s s'
-    → viewOf input' store' r ≡ turned sheet (viewOf input' store s') (chunkOf input' s') (next (viewOf input' store s')) → 0 < left
+    → viewOf input' store' r ≡ turned sheet (viewOf input' store s') (chunkOf input' s') → 0 < left
     → Made sheet input' store' r (left - 1)
 made-one {sheet} {store = store} {left = left} m going f e some =
     let same = f .same store in
@@ -71,7 +71,7 @@ pub running-on : {check : SheetCheck} {sheet index input₀ store₀ links₀ in
     → (store' links' line' : List ℕ) (r : State) {text : List ℕ}
     → (answered
     : Prepared check sheet index store' (r .kept) links'
-    × (Within input' r × ((viewOf input' store' r ≡ turned sheet (viewOf input' store s') (chunkOf input' s') (next (viewOf input' store s'))) × Line line' (r .line) text)))
+    × (Within input' r × ((viewOf input' store' r ≡ turned sheet (viewOf input' store s') (chunkOf input' s')) × Line line' (r .line) text)))
     → length store' ≡ length store → length links' ≡ length links
     → Running check sheet index input₀ store₀ links₀ input' store' links' line' r (left - 1)
 running-on w going some f same store' links' line' r answered same-store same-links =

@@ -16,7 +16,7 @@ use Rattle.stream.proofs.Items.{told}
 use Rattle.stream.specs.Stream.{items}
 use Rattle.report.specs.Printed.{put, asks, calls, lines, printed}
 use Rattle.report.proofs.Few.{used-up}
-use Rattle.report.specs.Report.{View, after, next, turned, given, taken, Turns, none, one-more, Ran}
+use Rattle.report.specs.Report.{View, after, next, turnedBy, givenBy, takenBy, Turns, none, one-more, Ran}
 
 -- the answers to all of an input
 abbrev all : List ℕ → List ℕ → List Answer
@@ -27,16 +27,16 @@ abbrev rest : List ℕ → View → List ℕ → List Answer
 rest sheet v later = answers sheet (v .lends) (calls (items (v .hand ++ later)))
 
 module _ (sheet input : List ℕ) (l : List Answer) (v : View) (chunk : List ℕ) (before : (later : List ℕ) → (v .ended ≡ true → later ≡ []) → all sheet (input ++ later) ≡ l ++ rest sheet v later) where
-  goes-on : (r : Next) → r ≡ next v → turned sheet v chunk r .going ≡ true → (later : List ℕ) → (turned sheet v chunk r .ended ≡ true → later ≡ [])
-      → all sheet ((input ++ taken chunk r) ++ later) ≡ (l ++ given sheet v r) ++ rest sheet (turned sheet v chunk r) later
-  unfolding turned given taken after answers calls put
+  goes-on : (r : Next) → r ≡ next v → turnedBy sheet v chunk r .going ≡ true → (later : List ℕ) → (turnedBy sheet v chunk r .ended ≡ true → later ≡ [])
+      → all sheet ((input ++ takenBy chunk r) ++ later) ≡ (l ++ givenBy sheet v r) ++ rest sheet (turnedBy sheet v chunk r) later
+  unfolding turnedBy givenBy takenBy after answers calls put
   goes-on (Question n) e g later h = simp (append-nil, append-assoc) (rw (told (v .hand) (v .ended) (Question n) e .1 later) at (before later h))
   goes-on Cut e g later h = absurd (false≢true g)
   goes-on End e g later h = absurd (false≢true g)
   goes-on More e g later h = simp (append-nil, append-assoc) (before (chunk ++ later) (λ t. absurd (true≢false (sym t ∙ told (v .hand) (v .ended) More e))))
 
-  is-over : (r : Next) → r ≡ next v → turned sheet v chunk r .going ≡ false → all sheet (input ++ taken chunk r) ≡ l ++ given sheet v r
-  unfolding turned given taken answers calls put
+  is-over : (r : Next) → r ≡ next v → turnedBy sheet v chunk r .going ≡ false → all sheet (input ++ takenBy chunk r) ≡ l ++ givenBy sheet v r
+  unfolding turnedBy givenBy takenBy answers calls put
   is-over (Question n) e g = absurd (true≢false g)
   is-over Cut e g = simp append-nil (simp (append-nil, told (v .hand) (v .ended) Cut e .1) at (before [] (λ t. refl)))
   is-over End e g = simp append-nil (simp (append-nil, told (v .hand) (v .ended) End e .1) at (before [] (λ t. refl)))

@@ -14,7 +14,7 @@ use Rattle.stream.specs.Stream.{front}
 use Rattle.stream.specs.Next.{nextOf}
 use Rattle.stream.proofs.Items.{told}
 use Rattle.report.specs.Printed.{asks, lines}
-use Rattle.report.specs.Report.{Line, View, next, after, turned, given}
+use Rattle.report.specs.Report.{Line, View, next, after, turnedBy, turned, givenBy, given}
 
 -- ---- By what comes next
 
@@ -23,38 +23,38 @@ view hand ended going lends = record { hand = hand; ended = ended; going = going
 
 module _ (sheet : List ℕ) (v : View) (chunk : List ℕ) where
   pub left-question : {n : ℕ} {hand : List ℕ} {lends : Lent} → Question n ≡ next v → hand ≡ drop (2 + n) (v .hand) → lends ≡ after sheet (v .lends) (take n (drop 2 (v .hand)))
-      → view hand (v .ended) true lends ≡ turned sheet v chunk (next v)
-  unfolding turned
+      → view hand (v .ended) true lends ≡ turned sheet v chunk
+  unfolding turnedBy
   left-question e h l = rw (← e, h, l)
 
-  pub left-cut : {lends : Lent} → Cut ≡ next v → lends ≡ after sheet (v .lends) [] → view (v .hand) (v .ended) false lends ≡ turned sheet v chunk (next v)
-  unfolding turned
+  pub left-cut : {lends : Lent} → Cut ≡ next v → lends ≡ after sheet (v .lends) [] → view (v .hand) (v .ended) false lends ≡ turned sheet v chunk
+  unfolding turnedBy
   left-cut e l = rw (← e, l)
 
-  pub left-end : End ≡ next v → view (v .hand) (v .ended) false (v .lends) ≡ turned sheet v chunk (next v)
-  unfolding turned
+  pub left-end : End ≡ next v → view (v .hand) (v .ended) false (v .lends) ≡ turned sheet v chunk
+  unfolding turnedBy
   left-end e = rw (← e)
 
-  pub left-more : {hand : List ℕ} {ended : Bool} → More ≡ next v → hand ≡ v .hand ++ chunk → ended ≡ eqb (length chunk) 0 → view hand ended true (v .lends) ≡ turned sheet v chunk (next v)
-  unfolding turned
+  pub left-more : {hand : List ℕ} {ended : Bool} → More ≡ next v → hand ≡ v .hand ++ chunk → ended ≡ eqb (length chunk) 0 → view hand ended true (v .lends) ≡ turned sheet v chunk
+  unfolding turnedBy
   left-more e h d = rw (← e, h, d)
 
 module _ (sheet : List ℕ) (v : View) {buffer : List ℕ} where
   pub line-question : {k n : ℕ} → Question n ≡ next v → Line buffer k (lineOf (call sheet (v .lends) (asks (take n (drop 2 (v .hand)))) .answer))
-      → Line buffer k (lines (given sheet v (next v)))
-  unfolding given lines
+      → Line buffer k (lines (given sheet v))
+  unfolding givenBy lines
   line-question e l = rw (← e, append-nil) l
 
-  pub line-cut : {k : ℕ} → Cut ≡ next v → Line buffer k (lineOf (call sheet (v .lends) (asks []) .answer)) → Line buffer k (lines (given sheet v (next v)))
-  unfolding given lines
+  pub line-cut : {k : ℕ} → Cut ≡ next v → Line buffer k (lineOf (call sheet (v .lends) (asks []) .answer)) → Line buffer k (lines (given sheet v))
+  unfolding givenBy lines
   line-cut e l = rw (← e, append-nil) l
 
-  pub line-end : End ≡ next v → length buffer ≡ 128 → Line buffer 0 (lines (given sheet v (next v)))
-  unfolding given lines
+  pub line-end : End ≡ next v → length buffer ≡ 128 → Line buffer 0 (lines (given sheet v))
+  unfolding givenBy lines
   line-end e size = rw (← e) record { bytes = refl; fits = omega arith; size = size }
 
-  pub line-more : More ≡ next v → length buffer ≡ 128 → Line buffer 0 (lines (given sheet v (next v)))
-  unfolding given lines
+  pub line-more : More ≡ next v → length buffer ≡ 128 → Line buffer 0 (lines (given sheet v))
+  unfolding givenBy lines
   line-more e size = rw (← e) record { bytes = refl; fits = omega arith; size = size }
 
 -- ---- In the buffer

@@ -77,31 +77,40 @@ next v = nextOf (front (v .hand)) (v .ended)
 -- What a turn leaves, by what comes next. A question is put, and taken off the bytes at hand; one that is cut is put as no bytes, which is as
 -- malformed as any, and ends the run, as the input's end does. Where more of the input is asked for, the chunk that was read comes after the
 -- bytes at hand, and an empty one is the input's end.
-unfoldable pub turned : List ℕ → View → List ℕ → Next → View
-turned sheet v chunk (Question n) =
+unfoldable pub turnedBy : List ℕ → View → List ℕ → Next → View
+turnedBy sheet v chunk (Question n) =
     record {
       hand = drop (2 + n) (v .hand);
       ended = v .ended;
       going = true;
       lends = after sheet (v .lends) (take n (drop 2 (v .hand)));
     }
-turned sheet v chunk Cut = record { hand = v .hand; ended = v .ended; going = false; lends = after sheet (v .lends) [] }
-turned sheet v chunk End = record { hand = v .hand; ended = v .ended; going = false; lends = v .lends }
-turned sheet v chunk More = record { hand = v .hand ++ chunk; ended = eqb (length chunk) 0; going = true; lends = v .lends }
+turnedBy sheet v chunk Cut = record { hand = v .hand; ended = v .ended; going = false; lends = after sheet (v .lends) [] }
+turnedBy sheet v chunk End = record { hand = v .hand; ended = v .ended; going = false; lends = v .lends }
+turnedBy sheet v chunk More = record { hand = v .hand ++ chunk; ended = eqb (length chunk) 0; going = true; lends = v .lends }
+
+abbrev pub turned : List ℕ → View → List ℕ → View
+turned sheet v chunk = turnedBy sheet v chunk (next v)
 
 -- The answers that a turn gives: one to a question, whole or cut.
-unfoldable pub given : List ℕ → View → Next → List Answer
-given sheet v (Question n) = call sheet (v .lends) (asks (take n (drop 2 (v .hand)))) .answer ∷ []
-given sheet v Cut = call sheet (v .lends) (asks []) .answer ∷ []
-given sheet v End = []
-given sheet v More = []
+unfoldable pub givenBy : List ℕ → View → Next → List Answer
+givenBy sheet v (Question n) = call sheet (v .lends) (asks (take n (drop 2 (v .hand)))) .answer ∷ []
+givenBy sheet v Cut = call sheet (v .lends) (asks []) .answer ∷ []
+givenBy sheet v End = []
+givenBy sheet v More = []
+
+abbrev pub given : List ℕ → View → List Answer
+given sheet v = givenBy sheet v (next v)
 
 -- What a turn takes of the input: the chunk, where more of it is asked for.
-unfoldable pub taken : List ℕ → Next → List ℕ
-taken chunk (Question n) = []
-taken chunk Cut = []
-taken chunk End = []
-taken chunk More = chunk
+unfoldable pub takenBy : List ℕ → Next → List ℕ
+takenBy chunk (Question n) = []
+takenBy chunk Cut = []
+takenBy chunk End = []
+takenBy chunk More = chunk
+
+abbrev pub taken : View → List ℕ → List ℕ
+taken v chunk = takenBy chunk (next v)
 
 -- the bytes at hand, and those after them that were read, are within the buffer
 abbrev pub Within : List ℕ → State → Type 0
@@ -124,7 +133,7 @@ start = record { hand = []; ended = false; going = true; lends = empty 1024 }
 pub data Turns (sheet : List ℕ) : ℕ → List ℕ → List Answer → View → Type 0 where
   none : Turns sheet 0 [] [] start
   one-more : {k : ℕ} {input : List ℕ} {l : List Answer} {v : View} (chunk : List ℕ) → Turns sheet k input l v → v .going ≡ true
-      → Turns sheet (suc k) (input ++ taken chunk (next v)) (l ++ given sheet v (next v)) (turned sheet v chunk (next v))
+      → Turns sheet (suc k) (input ++ taken v chunk) (l ++ given sheet v) (turned sheet v chunk)
 
 -- How a run has ended, with so many turns left of 2^64 - 1: there is no more to do, or no turn is left, or a line was not written.
 pub record Ran (sheet : List ℕ) (v : View) (left : ℕ) (written : Bool) : Type 0 where

@@ -12,7 +12,7 @@ ghost use Rattle.specs.specs.Calls.{empty, call};
 ghost use Rattle.checks.specs.Answers.{answerOf};
 ghost use Rattle.lines.specs.Lines.{lineOf};
 ghost use Rattle.report.specs.Printed.{asks, lines};
-ghost use Rattle.report.specs.Report.{Prepared, Put, Line, lent, after, viewOf, chunkOf, next, turned, given, Within, Fetched, Ran};
+ghost use Rattle.report.specs.Report.{Prepared, Put, Line, lent, after, viewOf, chunkOf, turned, given, Within, Fetched, Ran};
 
 // Where the run stands: the bytes at hand are those of the buffer from `from` to `to`, and the `came` bytes after them were read for the next
 // turn; the entries kept; whether the input's end was seen; whether there is more to do; and how long the line is that the last turn left.
@@ -171,7 +171,7 @@ fn fetch(input: &mut [u8], s: State) -> State
     }
 }
 
-// One turn: the next question is answered, or what was read is taken over, or the run ends.
+// One turn, with no call of the system: the next question is answered, or what was read is taken over, or there is no more to do.
 fn turn<'a>(
     check: SheetCheck,
     sheet: &'a [u8],
@@ -190,10 +190,8 @@ fn turn<'a>(
     ensures { λ r. ⌜ Prepared check (now (sheet .entry)) (now (index .entry)) (now (store .exit)) (r .kept) (now (links .exit)) ⌝ }
     ensures { λ r. ⌜ Within (now (input .entry)) r ⌝ }
     ensures { λ r. ⌜ viewOf (now (input .entry)) (now (store .exit)) r
-        ≡ turned (now (sheet .entry)) (viewOf (now (input .entry)) (now (store .entry)) s) (chunkOf (now (input .entry)) s)
-        (next (viewOf (now (input .entry)) (now (store .entry)) s)) ⌝ }
-    ensures { λ r. ⌜ Line (now (line .exit)) (r .line)
-        (lines (given (now (sheet .entry)) (viewOf (now (input .entry)) (now (store .entry)) s) (next (viewOf (now (input .entry)) (now (store .entry)) s)))) ⌝ }
+        ≡ turned (now (sheet .entry)) (viewOf (now (input .entry)) (now (store .entry)) s) (chunkOf (now (input .entry)) s) ⌝ }
+    ensures { λ r. ⌜ Line (now (line .exit)) (r .line) (lines (given (now (sheet .entry)) (viewOf (now (input .entry)) (now (store .entry)) s))) ⌝ }
 {
     let from = s.from;
     let to = s.to;
@@ -272,7 +270,7 @@ fn turn<'a>(
 }
 
 // Turns until there is no more to do, or a line cannot be written. A proved loop has to end, and nothing says that the input does, so the
-// turns are counted down from a number that no run uses up.
+// turns are counted down from a number that no run uses up (proofs/Few.antt).
 fn run(
     check: SheetCheck,
     sheet: &[u8],
