@@ -1,5 +1,5 @@
 //! Measures the engine, the same algorithm in Rust and the second evaluator on the same inputs in one run, and prints a
-//! table of nanoseconds and ratios (docs/BENCHMARKS.md).
+//! table of nanoseconds and ratios (docs/MEASUREMENTS.md).
 
 mod host;
 mod inputs;
