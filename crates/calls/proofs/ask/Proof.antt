@@ -1,30 +1,22 @@
+-- `calls::ask` meets its contract: the refusals of the checks, or the run. The lengths of frames and forms after the run are what `put` keeps of
+-- the slices that it is lent.
 use Rattle.calls.proofs.Preparing.{refuses, refusal-keeps, scratch-as-lent, scratch-used, checked-refused, checked-accepts, checked-askable, indexes-after}
 use borrow.Author.Needs.{needs}
 use Rattle.calls.proofs.ask.Statement.{statement}
 use Rattle.calls.proofs.ask.Tie as tie
-use Rattle.calls.proofs.ask.Reads as reads
-use Rattle.calls.proofs.ask.Lts as lts
-use Rattle.calls.proofs.put.Reads as put-reads
-use Rattle.checks.proofs.check.Reads as check-reads
-use Rattle.checks.proofs.refuse.Reads as refuse-reads
 
--- src/lib.rt:139:11
 check-requires : tie.Need-check-requires
 check-requires c κs = search needs
 
--- src/lib.rt:140:26
 enum-known-number : tie.Need-enum-known-number
 enum-known-number c = search needs
 
--- src/lib.rt:140:44
 refuse-requires : tie.Need-refuse-requires
 refuse-requires c κs = search needs
 
--- src/lib.rt:141:27
 enum-known-attributes : tie.Need-enum-known-attributes
 enum-known-attributes c = search needs
 
--- src/lib.rt:141:45
 put-requires : tie.Need-put-requires
 put-requires c κs =
     let at-put-arg = c .before .before .before in
@@ -33,11 +25,9 @@ put-requires c κs =
     let at-check-arg = at-check .before .before .before in
     checked-askable (at-check .check .ensures) (at-attributes .attributes .given .1) (search (needs, at-check-arg .before .before .words .given)) (search (needs, at-check-arg .before .marks .given))
 
--- src/lib.rt:120:1
 same-length : tie.Need-same-length
 same-length c = search needs
 
--- src/lib.rt:120:1
 returns : tie.Need-returns
 returns c =
     let at-number = c .before .before in
@@ -47,11 +37,9 @@ returns c =
     let (answer, left) = refuses _ _ _ _ _ (c .refuse .result) stops (c .refuse .ensures) in
     (answer, (left, (rw (refusal-keeps _ _ _ (c .refuse .result) (c .refuse .ensures)) (at-check .check .ensures .scratch), scratch-as-lent (search (needs, at-check-arg .before .before .words .given)) (search (needs, at-check-arg .before .marks .given)))))
 
--- src/lib.rt:120:1
 same-length-2 : tie.Need-same-length-2
 same-length-2 c = search needs
 
--- src/lib.rt:120:1
 returns-2 : tie.Need-returns-2
 returns-2 c =
     let at-put = c .before .before in

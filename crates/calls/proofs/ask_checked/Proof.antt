@@ -1,34 +1,25 @@
+-- `calls::ask_checked` meets its contract: the refusals of the budget and the question, or the run; what it leaves is prepared for the next call.
 use Rattle.calls.proofs.Preparing.{refuses, refusal-keeps, scratch-as-lent, scratch-used, question-refused, question-accepts, askable, prepared-again}
 use Rattle.checks.proofs.Laws.{attributes-fit}
 use borrow.Author.Needs.{needs}
 use Rattle.calls.proofs.ask_checked.Statement.{statement}
 use Rattle.calls.proofs.ask_checked.Tie as tie
-use Rattle.calls.proofs.ask_checked.Reads as reads
-use Rattle.calls.proofs.ask_checked.Lts as lts
-use Rattle.calls.proofs.put.Reads as put-reads
-use Rattle.checks.proofs.check_question.Reads as check-question-reads
-use Rattle.checks.proofs.refuse.Reads as refuse-reads
 
--- src/lib.rt:102:11
 check-question-requires : tie.Need-check-question-requires
 check-question-requires c κs =
     let at-slice-known = c .before .before .before in
     let at-shared-slice-known = at-slice-known .before .before .before in
     attributes-fit (at-shared-slice-known .before .pre .0)
 
--- src/lib.rt:103:32
 enum-known-number : tie.Need-enum-known-number
 enum-known-number c = search needs
 
--- src/lib.rt:103:43
 refuse-requires : tie.Need-refuse-requires
 refuse-requires c κs = search needs
 
--- src/lib.rt:109:13
 enum-told : tie.Need-enum-told
 enum-told c = search needs
 
--- src/lib.rt:104:39
 put-requires : tie.Need-put-requires
 put-requires c κs =
     let at-enum-told = c .before .before in
@@ -37,7 +28,6 @@ put-requires c κs =
     let at-shared-slice-known3 = at-words .before .before .before in
     askable (at-shared-slice-known3 .before .before .before .pre .0) (at-shared-slice-known3 .before .before .before .pre .1) _ _ (at-enum-told .before .before .check-question .ensures) (at-enum-told .enum-told .given .1) (search (needs, at-words .words .given)) (search (needs, at-marks .marks .given))
 
--- src/lib.rt:79:1
 returns : tie.Need-returns
 returns c =
     let at-number = c .before .before in
@@ -48,15 +38,12 @@ returns c =
     let (answer, left) = refuses _ _ _ _ _ (c .refuse .result) stops (c .refuse .ensures) in
     (answer, (left, (prepared-again (at-shared-slice-known3 .before .before .before .pre .0) (at-shared-slice-known3 .before .before .before .pre .1) _ _ (c .refuse .result) answer left (rw (refusal-keeps _ _ _ (c .refuse .result) (c .refuse .ensures)) (at-shared-slice-known3 .before .before .before .pre .1 .linked)), scratch-as-lent (search (needs, at-words .words .given)) (search (needs, at-marks .marks .given)))))
 
--- src/lib.rt:79:1
 same-length : tie.Need-same-length
 same-length c = search needs
 
--- src/lib.rt:79:1
 same-length-2 : tie.Need-same-length-2
 same-length-2 c = search needs
 
--- src/lib.rt:79:1
 returns-2 : tie.Need-returns-2
 returns-2 c =
     let at-store = c .before .before .before in

@@ -1,52 +1,39 @@
+-- `checks::check_from_store` meets its contract: the refusals of the store, of the budget and of the question (Laws.antt).
 use Rattle.checks.proofs.Laws.{store-stops, question-stops, question-passes}
 use borrow.Author.Needs.{needs}
 use Rattle.checks.proofs.check_from_store.Statement.{statement}
 use Rattle.checks.proofs.check_from_store.Tie as tie
-use Rattle.checks.proofs.check_from_store.Reads as reads
-use Rattle.checks.proofs.check_from_store.Lts as lts
-use Rattle.checks.proofs.check_question.Reads as check-question-reads
-use Rattle.stores.proofs.check.Reads as check-reads
 
--- src/lib.rt:59:11
 check-requires : tie.Need-check-requires
 check-requires c κs = search needs
 
--- src/lib.rt:60:29
 enum-known-number : tie.Need-enum-known-number
 enum-known-number c = search needs
 
--- src/lib.rt:61:39
 enum-told : tie.Need-enum-told
 enum-told c = search needs
 
--- src/lib.rt:61:39
 check-question-requires : tie.Need-check-question-requires
 check-question-requires c κs = search needs
 
--- src/lib.rt:62:36
 enum-known-number-2 : tie.Need-enum-known-number-2
 enum-known-number-2 c = search needs
 
--- src/lib.rt:63:43
 enum-told-2 : tie.Need-enum-told-2
 enum-told-2 c = search needs
 
--- src/lib.rt:46:1
 same-length : tie.Need-same-length
 same-length c = search needs
 
--- src/lib.rt:46:1
 returns : tie.Need-returns
 returns c =
     let at-number = c .before in
     let at-links = at-number .before .before .before in
     store-stops _ _ (at-links .before .check .ensures) (at-number .number .given .1)
 
--- src/lib.rt:46:1
 same-length-2 : tie.Need-same-length-2
 same-length-2 c = search needs
 
--- src/lib.rt:46:1
 returns-2 : tie.Need-returns-2
 returns-2 c =
     let at-check-question = c .before .before .before in
@@ -54,11 +41,9 @@ returns-2 c =
     let at-links = at-enum-told .before .before .before in
     question-stops _ _ (at-links .before .check .ensures) (at-enum-told .enum-told .given .1) (at-check-question .check-question .ensures) (c .before .number2 .given .1)
 
--- src/lib.rt:46:1
 same-length-3 : tie.Need-same-length-3
 same-length-3 c = search needs
 
--- src/lib.rt:46:1
 returns-3 : tie.Need-returns-3
 returns-3 c =
     let at-enum-told = c .before .before .before in

@@ -1,22 +1,17 @@
+-- `checks::check_question` meets its contract: the budget, then the question (Laws.antt).
 use Rattle.checks.proofs.Laws.{budget-refused, budget-permits}
 use Rattle.expressions.specs.Forms.{questionOf}
 use mathlib.Core.Path.{sym, ap, _∙_}
 use borrow.Author.Needs.{needs}
 use Rattle.checks.proofs.check_question.Statement.{statement}
 use Rattle.checks.proofs.check_question.Tie as tie
-use Rattle.checks.proofs.check_question.Reads as reads
-use Rattle.checks.proofs.check_question.Lts as lts
-use Rattle.expressions.proofs.check_question.Reads as check-question-reads
 
--- src/lib.rt:40:9
 returns : tie.Need-returns
 returns c = λ s of. budget-refused s _ _ (c .if1 .taken)
 
--- src/lib.rt:42:5
 check-question-requires : tie.Need-check-question-requires
 check-question-requires c κs = search needs
 
--- src/lib.rt:29:1
 returns-2 : tie.Need-returns-2
 returns-2 c = λ s of. c .check-question .ensures s (of .attributes-are) (of .nodes-count) ∙ ap (questionOf (s .attributes)) (sym (budget-permits s _ _ (c .before .if1 .left)))
 

@@ -1,22 +1,17 @@
+-- `sheets::check` meets its contract: the limit of the length, then the commands.
 use Rattle.sheets.proofs.Scan.{long-checks, short-checks}
 use mathlib.Core.Path.{_≡_}
 use lib.ListN.{length}
 use borrow.Author.Needs.{needs}
 use Rattle.sheets.proofs.check.Statement.{statement}
 use Rattle.sheets.proofs.check.Tie as tie
-use Rattle.sheets.proofs.check.Reads as reads
-use Rattle.sheets.proofs.check.Lts as lts
-use Rattle.sheets.proofs.read_commands.Reads as read-commands-reads
 
--- src/lib.rt:322:9
 returns : tie.Need-returns
 returns c = let size : length (c .before .before .before .args .index .now) ≡ 33280 = search needs in long-checks _ _ size (c .if1 .taken)
 
--- src/lib.rt:324:5
 read-commands-requires : tie.Need-read-commands-requires
 read-commands-requires c κs = search needs
 
--- src/lib.rt:317:1
 returns-2 : tie.Need-returns-2
 returns-2 c =
     let at-if1 = c .before in

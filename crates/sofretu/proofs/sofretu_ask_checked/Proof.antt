@@ -1,26 +1,19 @@
+-- The answer of `calls::ask_checked` is laid out as it is.
 use mathlib.Core.Path.{_∙_, ap}
 use Rattle.sofretu.specs.Six.{six}
 use borrow.Author.Needs.{needs}
 use Rattle.sofretu.proofs.sofretu_ask_checked.Statement.{statement}
 use Rattle.sofretu.proofs.sofretu_ask_checked.Tie as tie
-use Rattle.sofretu.proofs.sofretu_ask_checked.Reads as reads
-use Rattle.sofretu.proofs.sofretu_ask_checked.Lts as lts
-use Rattle.calls.proofs.ask_checked.Reads as ask-checked-reads
-use Rattle.sofretu.proofs.lay.Reads as lay-reads
 
--- src/lib.rt:251:9
 ask-checked-requires : tie.Need-ask-checked-requires
 ask-checked-requires c κs = search needs
 
--- src/lib.rt:264:5
 lay-requires : tie.Need-lay-requires
 lay-requires c κs = search needs
 
--- src/lib.rt:227:1
 same-length : tie.Need-same-length
 same-length c = search needs
 
--- src/lib.rt:227:1
 returns : tie.Need-returns
 returns c =
     let at-store = c .before .before .before in

@@ -1,26 +1,19 @@
+-- The answer of `calls::ask` is laid out as it is.
 use mathlib.Core.Path.{_∙_, ap}
 use Rattle.sofretu.specs.Six.{six}
 use borrow.Author.Needs.{needs}
 use Rattle.sofretu.proofs.sofretu_ask_in.Statement.{statement}
 use Rattle.sofretu.proofs.sofretu_ask_in.Tie as tie
-use Rattle.sofretu.proofs.sofretu_ask_in.Reads as reads
-use Rattle.sofretu.proofs.sofretu_ask_in.Lts as lts
-use Rattle.calls.proofs.ask.Reads as ask-reads
-use Rattle.sofretu.proofs.lay.Reads as lay-reads
 
--- src/lib.rt:115:9
 ask-requires : tie.Need-ask-requires
 ask-requires c κs = search needs
 
--- src/lib.rt:126:5
 lay-requires : tie.Need-lay-requires
 lay-requires c κs = search needs
 
--- src/lib.rt:95:1
 same-length : tie.Need-same-length
 same-length c = search needs
 
--- src/lib.rt:95:1
 returns : tie.Need-returns
 returns c =
     let at-store = c .before .before .before in

@@ -1,30 +1,23 @@
+-- What `sheets::check` answers is handed on; a refusal has no number 0.
 use Rattle.sofretu.proofs.Numbers.{sheet-refusal, sheet-acceptance}
 use borrow.Author.Needs.{needs}
 use Rattle.sofretu.proofs.sofretu_check_sheet.Statement.{statement}
 use Rattle.sofretu.proofs.sofretu_check_sheet.Tie as tie
-use Rattle.sofretu.proofs.sofretu_check_sheet.Reads as reads
-use Rattle.sofretu.proofs.sofretu_check_sheet.Lts as lts
-use Rattle.sheets.proofs.check.Reads as check-reads
 
--- src/lib.rt:173:11
 check-requires : tie.Need-check-requires
 check-requires c κs = search needs
 
--- src/lib.rt:174:29
 enum-known-number : tie.Need-enum-known-number
 enum-known-number c = search needs
 
--- src/lib.rt:178:30
 enum-known-attributes : tie.Need-enum-known-attributes
 enum-known-attributes c = search needs
 
--- src/lib.rt:162:1
 returns : tie.Need-returns
 returns c =
     let at-number = c .before .before in
     let found = sheet-refusal (at-number .before .before .check .ensures) (at-number .number .given .1) in (found .0, (found .1, at-number .before .before .check .ensures .size))
 
--- src/lib.rt:162:1
 returns-2 : tie.Need-returns-2
 returns-2 c =
     let at-attributes = c .before .before in

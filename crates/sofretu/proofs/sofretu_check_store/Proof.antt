@@ -1,36 +1,27 @@
+-- What `stores::check` answers is handed on; a refusal has no number 0.
 use Rattle.sofretu.proofs.Numbers.{store-refusal, store-acceptance}
 use native.Mathlib.Omega.{arith}
 use borrow.Author.Needs.{needs}
 use Rattle.sofretu.proofs.sofretu_check_store.Statement.{statement}
 use Rattle.sofretu.proofs.sofretu_check_store.Tie as tie
-use Rattle.sofretu.proofs.sofretu_check_store.Reads as reads
-use Rattle.sofretu.proofs.sofretu_check_store.Lts as lts
-use Rattle.sofretu.proofs.least.Reads as least-reads
-use Rattle.stores.proofs.check.Reads as check-reads
 
--- src/lib.rt:208:9
 least-requires : tie.Need-least-requires
 least-requires c κs = search needs
 
--- src/lib.rt:206:11
 check-requires : tie.Need-check-requires
 check-requires c κs = (rw (c .before .least .ensures) (omega arith), search needs)
 
--- src/lib.rt:214:29
 enum-known-number : tie.Need-enum-known-number
 enum-known-number c = search needs
 
--- src/lib.rt:219:13
 enum-told : tie.Need-enum-told
 enum-told c = search needs
 
--- src/lib.rt:194:1
 returns : tie.Need-returns
 returns c =
     let at-check = c .before .before .before in
     store-refusal _ (at-check .check .ensures) (at-check .before .before .least .ensures) (c .before .number .given .1)
 
--- src/lib.rt:194:1
 returns-2 : tie.Need-returns-2
 returns-2 c =
     let at-check = c .before .before in
