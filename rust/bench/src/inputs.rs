@@ -1,7 +1,7 @@
 //! The inputs of the rows, made in code and without chance. A question of many steps is made of few bytes by attributes
 //! that ask the same again, on nodes or with parameters that the store has not kept.
 
-use oracle::write::*;
+use trials::write::*;
 
 use crate::programs::Input;
 
@@ -21,7 +21,7 @@ fn empty(capacity: usize) -> Vec<u8> {
 /// Sheet L of document 01, with D, the dial of node 1, and an empty store: 8 steps.
 pub fn sheet_l() -> Input {
     Input {
-        sheet: oracle::write::sheet_l(),
+        sheet: trials::write::sheet_l(),
         question: d(),
         store: empty(1_024),
         kept: 0,

@@ -11,7 +11,7 @@ mod rows;
 use std::process::ExitCode;
 use std::time::Duration;
 
-use oracle::commands::ended;
+use trials::commands::ended;
 
 use measure::{measure, Effort};
 use programs::{Engine, Input, Oracle, Program, Twin, Work};

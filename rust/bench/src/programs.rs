@@ -129,7 +129,7 @@ impl Program for Twin {
         let (sheet, question) = (&input.sheet[..], &input.question[..]);
         let mut store = input.store.clone();
         let lent = &mut store[..];
-        let refused = |stop: twin::Stop| stopped(stop.reason as i64, stop.place as i64);
+        let refused = |refusal: twin::Refusal| stopped(refusal.stop as i64, refusal.place as i64);
         let (time, fields) = match work {
             Work::Question => {
                 let sheet = Sheet::check(sheet, &mut scratch.index).expect(CHECKED);

@@ -2,10 +2,10 @@
 //! the engine's own answers against plain Saiga.
 #![forbid(unsafe_code)]
 
-use oracle::compare::{compare_check, Counts};
-use oracle::engine::ask_each;
-use oracle::{Answer, Ask, Case, Engine};
 use sofretu::{Refusal, Scratch, Session, Sheet, Store, MOST_STEPS};
+use trials::compare::{compare_check, Counts};
+use trials::engine::ask_each;
+use trials::{Answer, Ask, Case, Engine};
 
 /// The library's ways to put a question, each an engine.
 #[derive(Default)]
@@ -30,7 +30,7 @@ impl Ways {
         let mut counts = Counts::default();
         for (name, engine) in self.all() {
             counts =
-                oracle::compare(engine, case).map_err(|differs| format!("{name}: {differs}"))?;
+                trials::compare(engine, case).map_err(|differs| format!("{name}: {differs}"))?;
         }
         compare_check(check, case).map_err(|differs| format!("sofretu_check: {differs}"))?;
         Ok(counts)
@@ -40,7 +40,7 @@ impl Ways {
     pub fn agree_and_keep_demand_3(&mut self, case: &Case) -> Result<Counts, String> {
         let mut counts = self.agree(case)?;
         for (name, engine) in self.all() {
-            let tried = oracle::demand3(engine, case)
+            let tried = trials::demand3(engine, case)
                 .map_err(|violation| format!("{name}: {violation}"))?;
             counts.checks = tried.checks;
         }
@@ -202,7 +202,7 @@ mod tests {
 
     #[test]
     fn the_call_that_fills_scratch_is_accepted_and_goes_deep() {
-        let listed = filling().answered(&mut oracle::Oracle::default());
+        let listed = filling().answered(&mut trials::Oracle::default());
         let answer = listed.answers[0];
         assert_eq!((answer.number, answer.steps, answer.kept), (16, 64, 1_024));
     }

@@ -3,8 +3,8 @@
 use std::process::ExitCode;
 
 use compare::Ways;
-use oracle::commands::{ended, replay, run, vectors};
-use oracle::Oracle;
+use trials::commands::{ended, replay, run, vectors};
+use trials::Oracle;
 
 const USAGE: &str = "usage: compare vectors FILE | run LISTS SEED | replay FILE";
 

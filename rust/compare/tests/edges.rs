@@ -1,8 +1,8 @@
 //! The proved calls at the edges of their input, against the second evaluator.
 
 use compare::Ways;
-use oracle::write::{d, sheet_l};
-use oracle::{Ask, Case, Oracle};
+use trials::write::{d, sheet_l};
+use trials::{Ask, Case, Oracle};
 
 /// The stop from 1 to 13 that both say of a call, or none. All else of their answers, and the store, must be the same too.
 fn verdict(

@@ -2,11 +2,11 @@
 //! evaluator say.
 
 use compare::Ways;
-use oracle::case::read_lists;
-use oracle::examples::read_examples;
-use oracle::soak::soak;
-use oracle::write::*;
-use oracle::{Ask, Case, Oracle};
+use trials::case::read_lists;
+use trials::examples::read_examples;
+use trials::soak::soak;
+use trials::write::*;
+use trials::{Ask, Case, Oracle};
 
 #[test]
 fn the_vectors_agree() {
@@ -38,7 +38,7 @@ fn demand_3_holds_in_every_way_on_the_vectors() {
     let mut ways = Ways::default();
     for listed in lists {
         for (name, engine) in ways.all() {
-            if let Err(violation) = oracle::demand3(engine, &listed.case) {
+            if let Err(violation) = trials::demand3(engine, &listed.case) {
                 panic!("{name}: {violation}\n{listed}");
             }
         }

@@ -13,12 +13,12 @@ use std::process::Stdio;
 use std::thread;
 use std::time::Duration;
 
-use oracle::case::bytes;
-use oracle::generate;
 use program::traced::{self, Call, Fate};
 use program::{
     all_of, dials, directory, ends, framed, printed, printed_in, program, sheet_l, Sheet, ROOT,
 };
+use trials::case::bytes;
+use trials::generate;
 
 /// Bytes in hexadecimal, and BYTES*N for those bytes N times.
 fn spelt(text: &str) -> Vec<u8> {

@@ -63,12 +63,12 @@
 
 mod answer;
 mod library;
-mod stop;
 mod store;
 
 pub use answer::{Answer, Value};
 pub use library::{ask, check, Scratch, Session, Sheet};
-pub use stop::{Origin, Refusal, Stop};
+#[doc(inline)]
+pub use stops::{Origin, Refusal, Stop};
 pub use store::{Store, ENTRY, MOST_ENTRIES};
 
 /// The greatest budget permitted.

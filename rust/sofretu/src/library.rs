@@ -12,9 +12,9 @@ use std::hint::black_box;
 use std::mem::MaybeUninit;
 
 use sofretu_sys::{FORMS, FRAMES, INDEX, LINKS};
+use stops::{Refusal, Stop};
 
 use crate::answer::Answer;
-use crate::stop::{Refusal, Stop};
 use crate::store::Store;
 
 /// A sheet that none of stops 1 to 8 holds of, over its borrowed bytes.
@@ -37,6 +37,18 @@ pub struct Sheet<'a> {
 
 impl<'a> Sheet<'a> {
     /// Checks a sheet once for all the questions put to it.
+    ///
+    /// ```
+    /// use sofretu::{Origin, Refusal, Sheet, Stop};
+    ///
+    /// let refusal = Sheet::check(&[0x41, 2, 9, 0x5A]).unwrap_err();
+    /// assert_eq!(refusal, Refusal { stop: Stop::Operand, place: 0 });
+    /// assert_eq!(refusal.stop.origin(), Origin::Author);
+    /// assert_eq!(
+    ///     refusal.to_string(),
+    ///     "stop 4 at byte 0: a command's operand is outside its values or undeclared"
+    /// );
+    /// ```
     pub fn check(bytes: &'a [u8]) -> Result<Sheet<'a>, Refusal> {
         let mut index = zeros();
         let (number, [place, attributes, nodes]) = sofretu_sys::check_sheet(bytes, &mut index);

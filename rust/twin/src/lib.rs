@@ -6,17 +6,18 @@
 #![forbid(unsafe_code)]
 #![no_std]
 
+mod answers;
 mod bytes;
 mod expressions;
 mod machine;
 mod sheets;
-mod stops;
 mod stores;
 mod values;
 
+pub use answers::Answer;
 pub use machine::{Form, Frame, Stack};
 pub use sheets::{Index, Sheet};
-pub use stops::{Answer, Reason, Stop};
+pub use stops::{Refusal, Stop};
 pub use stores::{Links, Store};
 pub use values::{Base, Function, Holding, Value};
 
@@ -70,7 +71,7 @@ pub fn ask_in(
         Ok((sheet, mut store)) => {
             ask_checked(&sheet, &mut store, question, budget, &mut scratch.stack)
         }
-        Err(stop) => Answer::refusal(stop, kept),
+        Err(refusal) => Answer::refusal(refusal, kept),
     }
 }
 
@@ -84,7 +85,7 @@ pub fn ask_checked(
 ) -> Answer {
     match check_question(sheet, question, budget) {
         Ok(()) => machine::run(sheet, store, question, budget, stack),
-        Err(stop) => Answer::refusal(stop, store.kept as u64),
+        Err(refusal) => Answer::refusal(refusal, store.kept as u64),
     }
 }
 
@@ -97,23 +98,23 @@ pub fn check(
     budget: u64,
     index: &mut Index,
     links: &mut Links,
-) -> Result<(), Stop> {
+) -> Result<(), Refusal> {
     let sheet = Sheet::check(sheet, index)?;
     Store::check(&sheet, store, kept, links)?;
     check_question(&sheet, question, budget)
 }
 
 /// Stops 11 to 13.
-fn check_question(sheet: &Sheet, question: &[u8], budget: u64) -> Result<(), Stop> {
+fn check_question(sheet: &Sheet, question: &[u8], budget: u64) -> Result<(), Refusal> {
     if budget > MOST_STEPS {
-        return Err(Stop::of(Reason::Budget));
+        return Err(Stop::Budget.into());
     }
     let typ = sheet
         .scope(None)
         .read_whole(question)
-        .ok_or(Stop::of(Reason::QuestionForm))?;
+        .ok_or(Stop::QuestionForm)?;
     if !typ.is_base() {
-        return Err(Stop::of(Reason::QuestionType));
+        return Err(Stop::QuestionType.into());
     }
     Ok(())
 }

@@ -1,10 +1,12 @@
 //! The frame machine (document 01, "The steps", with stops 14 to 16): heads are read until one is a value, and values are
 //! given to frames until one has an expression to step.
 
+use stops::{Refusal, Stop};
+
+use crate::answers::Answer;
 use crate::bytes::{four, two};
 use crate::expressions::{width, LONGEST};
 use crate::sheets::{Definition, Sheet};
-use crate::stops::{Answer, Reason, Stop};
 use crate::stores::{Key, Store};
 use crate::values::{Function, Value, NULL};
 
@@ -68,15 +70,15 @@ struct Budget {
 }
 
 impl Budget {
-    fn allows(&self) -> Result<(), Reason> {
+    fn allows(&self) -> Result<(), Stop> {
         match self.left {
-            0 => Err(Reason::Spent),
+            0 => Err(Stop::Spent),
             _ => Ok(()),
         }
     }
 
     /// Counts a step.
-    fn count(&mut self) -> Result<(), Reason> {
+    fn count(&mut self) -> Result<(), Stop> {
         self.allows()?;
         self.left -= 1;
         Ok(())
@@ -94,7 +96,7 @@ pub fn run(
     let mut counted = Budget { left: budget };
     let ending = evaluate(sheet, store, question, &mut counted, stack);
     Answer {
-        ending: ending.map_err(Stop::of),
+        ending: ending.map_err(Refusal::from),
         steps: budget - counted.left,
         kept: store.kept as u64,
     }
@@ -106,7 +108,7 @@ fn evaluate(
     question: &[u8],
     budget: &mut Budget,
     Stack { frames, forms }: &mut Stack,
-) -> Result<Value, Reason> {
+) -> Result<Value, Stop> {
     // The running piece lies in the question while no form is open, and in the sheet inside a form.
     let mut piece = question;
     let mut at = 0;
@@ -200,11 +202,11 @@ fn evaluate(
                 }
                 Frame::Parameter { attribute, node } => {
                     if node == NULL {
-                        return Err(Reason::Null);
+                        return Err(Stop::Null);
                     }
                     budget.allows()?;
                     if open == MOST_OPEN {
-                        return Err(Reason::Depth);
+                        return Err(Stop::Depth);
                     }
                     budget.count()?;
                     let key = Key {

@@ -1,8 +1,9 @@
 //! The check of a sheet (stops 1 to 8) and the index that it fills; the look-up of a definition.
 
+use stops::{Refusal, Stop};
+
 use crate::bytes::{four, two};
 use crate::expressions::{Scope, Type};
-use crate::stops::{Reason, Stop};
 use crate::values::Base;
 
 const LONGEST_SHEET: usize = 65_536;
@@ -54,9 +55,9 @@ struct Progress<'a> {
 
 impl<'a> Sheet<'a> {
     /// Checks a sheet and fills the index.
-    pub fn check(bytes: &'a [u8], index: &'a mut Index) -> Result<Sheet<'a>, Stop> {
+    pub fn check(bytes: &'a [u8], index: &'a mut Index) -> Result<Sheet<'a>, Refusal> {
         if bytes.len() > LONGEST_SHEET {
-            return Err(Stop::of(Reason::SheetLength));
+            return Err(Stop::SheetLength.into());
         }
         index[RULES..].fill(0);
         let mut progress = Progress {
@@ -69,7 +70,7 @@ impl<'a> Sheet<'a> {
         while !progress.ends()? {
             progress
                 .command(index)
-                .map_err(|reason| Stop::at(reason, progress.at))?;
+                .map_err(|stop| stop.at(progress.at as u64))?;
         }
         let sheet = Sheet {
             bytes,
@@ -78,7 +79,7 @@ impl<'a> Sheet<'a> {
             index,
         };
         match sheet.first_undefined() {
-            Some(pair) => Err(Stop::at(Reason::NoDefinition, pair)),
+            Some(pair) => Err(Stop::NoDefinition.at(pair as u64)),
             None => Ok(sheet),
         }
     }
@@ -137,28 +138,28 @@ impl<'a> Sheet<'a> {
 
 impl Progress<'_> {
     /// Whether the end command is reached, with nothing after it.
-    fn ends(&self) -> Result<bool, Stop> {
+    fn ends(&self) -> Result<bool, Refusal> {
         match self.bytes[self.at..] {
-            [] => Err(Stop::at(Reason::Command, self.at)),
+            [] => Err(Stop::Command.at(self.at as u64)),
             [0x5A] => Ok(true),
-            [0x5A, ..] => Err(Stop::at(Reason::Command, self.at + 1)),
+            [0x5A, ..] => Err(Stop::Command.at((self.at + 1) as u64)),
             _ => Ok(false),
         }
     }
 
     /// Takes in the command at the offset reached.
-    fn command(&mut self, index: &mut Index) -> Result<(), Reason> {
+    fn command(&mut self, index: &mut Index) -> Result<(), Stop> {
         let (part, width) = match self.bytes[self.at] {
             0x41 => (Part::Attributes, 3),
             0x4E => (Part::Nodes, 2),
             0x56 => (Part::Figures, 8),
             0x52 => (Part::Rules, 5),
-            _ => return Err(Reason::Command),
+            _ => return Err(Stop::Command),
         };
         let command = self.bytes.get(self.at..self.at + width);
-        let command = command.ok_or(Reason::Command)?;
+        let command = command.ok_or(Stop::Command)?;
         if part < self.part {
-            return Err(Reason::Command);
+            return Err(Stop::Command);
         }
         let more = match part {
             Part::Attributes => self.attribute(command)?,
@@ -171,56 +172,56 @@ impl Progress<'_> {
         Ok(())
     }
 
-    fn attribute(&mut self, command: &[u8]) -> Result<usize, Reason> {
+    fn attribute(&mut self, command: &[u8]) -> Result<usize, Stop> {
         if self.attributes == MOST_ATTRIBUTES {
-            return Err(Reason::TooMany);
+            return Err(Stop::TooMany);
         }
         if command[1] > 3 || command[2] > 3 {
-            return Err(Reason::Operand);
+            return Err(Stop::Operand);
         }
         self.attributes += 1;
         Ok(0)
     }
 
-    fn node(&mut self, command: &[u8], index: &mut Index) -> Result<usize, Reason> {
+    fn node(&mut self, command: &[u8], index: &mut Index) -> Result<usize, Stop> {
         if self.nodes == MOST_NODES {
-            return Err(Reason::TooMany);
+            return Err(Stop::TooMany);
         }
         if usize::from(command[1]) >= KINDS {
-            return Err(Reason::Operand);
+            return Err(Stop::Operand);
         }
         index[self.nodes * MOST_ATTRIBUTES..][..MOST_ATTRIBUTES].fill(0);
         self.nodes += 1;
         Ok(0)
     }
 
-    fn figure(&mut self, command: &[u8], index: &mut Index) -> Result<usize, Reason> {
+    fn figure(&mut self, command: &[u8], index: &mut Index) -> Result<usize, Stop> {
         let node = usize::from(two(command, 1));
         let attribute = usize::from(command[3]);
         if node >= self.nodes || attribute >= self.attributes {
-            return Err(Reason::Operand);
+            return Err(Stop::Operand);
         }
         if !Base::of(self.bytes[3 * attribute + 1]).has(four(command, 4), self.nodes) {
-            return Err(Reason::Operand);
+            return Err(Stop::Operand);
         }
         self.define(&mut index[node * MOST_ATTRIBUTES + attribute])?;
         Ok(0)
     }
 
     /// The width of the rule's expression.
-    fn rule(&mut self, command: &[u8], index: &mut Index) -> Result<usize, Reason> {
+    fn rule(&mut self, command: &[u8], index: &mut Index) -> Result<usize, Stop> {
         let length = usize::from(two(command, 3));
         let start = self.at + command.len();
         let expression = self.bytes.get(start..start + length);
-        let expression = expression.ok_or(Reason::Command)?;
+        let expression = expression.ok_or(Stop::Command)?;
         let kind = usize::from(command[1]);
         let attribute = usize::from(command[2]);
         if kind >= KINDS || attribute >= self.attributes {
-            return Err(Reason::Operand);
+            return Err(Stop::Operand);
         }
         let place = &mut index[RULES + kind * MOST_ATTRIBUTES + attribute];
         if *place != 0 {
-            return Err(Reason::SecondDefinition);
+            return Err(Stop::SecondDefinition);
         }
         let [result, parameter] = two(self.bytes, 3 * attribute + 1).to_le_bytes();
         let scope = Scope {
@@ -229,18 +230,18 @@ impl Progress<'_> {
             nodes: self.nodes,
             parameter: Some(Base::of(parameter)),
         };
-        let typ = scope.read_whole(expression).ok_or(Reason::RuleForm)?;
+        let typ = scope.read_whole(expression).ok_or(Stop::RuleForm)?;
         if typ != Type::base(Base::of(result)) {
-            return Err(Reason::RuleType);
+            return Err(Stop::RuleType);
         }
         self.define(place)?;
         Ok(length)
     }
 
     /// The command at the offset reached becomes the definition at a place of the index.
-    fn define(&self, place: &mut u32) -> Result<(), Reason> {
+    fn define(&self, place: &mut u32) -> Result<(), Stop> {
         if *place != 0 {
-            return Err(Reason::SecondDefinition);
+            return Err(Stop::SecondDefinition);
         }
         *place = self.at as u32 + 1;
         Ok(())

@@ -1,8 +1,9 @@
 //! The store: its check (stops 9 and 10) with an index over the kept entries, by which an occurrence is found.
 
+use stops::{Refusal, Stop};
+
 use crate::bytes::{four, two};
 use crate::sheets::Sheet;
-use crate::stops::{Reason, Stop};
 
 const ENTRY: usize = 12;
 const MOST_ENTRIES: usize = 1_024;
@@ -50,10 +51,10 @@ impl<'a> Store<'a> {
         bytes: &'a mut [u8],
         kept: u64,
         links: &'a mut Links,
-    ) -> Result<Store<'a>, Stop> {
+    ) -> Result<Store<'a>, Refusal> {
         let (entries, rest) = bytes.as_chunks_mut();
         if !rest.is_empty() || entries.len() > MOST_ENTRIES || kept > entries.len() as u64 {
-            return Err(Stop::of(Reason::StoreShape));
+            return Err(Stop::StoreShape.into());
         }
         links[..BUCKETS].fill(0);
         let mut store = Store {
@@ -65,7 +66,7 @@ impl<'a> Store<'a> {
             let entry = &store.entries[number];
             let key = Key::of(entry);
             if !is_entry(sheet, entry, key) || store.find(key).is_some() {
-                return Err(Stop::at(Reason::StoreEntry, number));
+                return Err(Stop::StoreEntry.at(number as u64));
             }
             store.link(key);
         }

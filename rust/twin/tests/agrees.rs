@@ -1,10 +1,10 @@
 //! The twin against the second evaluator: every field of every answer, every byte of the store after it.
 
-use oracle::case::{read_lists, Ask, Case};
-use oracle::compare::{compare_check, Counts};
-use oracle::examples::read_examples;
-use oracle::generate;
-use oracle::{compare, Answer, Engine};
+use trials::case::{read_lists, Ask, Case};
+use trials::compare::{compare_check, Counts};
+use trials::examples::read_examples;
+use trials::generate;
+use trials::{compare, Answer, Engine};
 use twin::{Scratch, Sheet, Store};
 
 /// The twin in scratch that earlier calls have written.
@@ -21,7 +21,7 @@ fn check(sheet: &[u8], store: &[u8], kept: u64, ask: &Ask) -> Result<(), (i64, i
     let Scratch { index, links, .. } = &mut *Box::<Scratch>::default();
     let store = &mut store.to_vec();
     twin::check(sheet, &ask.question, store, kept, ask.budget, index, links)
-        .map_err(|stop| (stop.reason as i64, stop.place as i64))
+        .map_err(|refusal| (refusal.stop as i64, refusal.place as i64))
 }
 
 /// The list's questions put to a sheet and a store that are checked once, beside `ask` for each.

@@ -1,11 +1,11 @@
-//! The oracle's commands.
+//! The commands that try the second evaluator.
 
 use std::process::ExitCode;
 
-use oracle::commands::{ended, replay, run, vectors};
-use oracle::{demand3, Oracle};
+use trials::commands::{ended, replay, run, vectors};
+use trials::{demand3, Oracle};
 
-const USAGE: &str = "usage: oracle vectors FILE | self CASES SEED | replay FILE";
+const USAGE: &str = "usage: trials vectors FILE | self CASES SEED | replay FILE";
 
 fn main() -> ExitCode {
     let arguments: Vec<String> = std::env::args().skip(1).collect();

@@ -1,6 +1,7 @@
 //! The examples of docs/STOPS.md.
 
-use crate::ask::Answer;
+use oracle::ask::Answer;
+
 use crate::case::{bytes, Ask, Case};
 
 /// An example: questions with the answers that the page gives, under the heading of a number.

@@ -2,7 +2,7 @@
 
 use crate::ask;
 use crate::common::*;
-use oracle::Answer;
+use trials::Answer;
 
 const MOST: u64 = 1_000_000;
 

@@ -1,11 +1,12 @@
 //! Sheets with something wrong.
 
+use oracle::expr::LONGEST;
+use oracle::sheet::{MOST_ATTRIBUTES, MOST_NODES};
+use oracle::values::{Base, Type};
+
 use super::draft::Draft;
 use super::rng::Rng;
 use super::writer::{apply, function_types, unit_of_length, Writer};
-use crate::expr::LONGEST;
-use crate::sheet::{MOST_ATTRIBUTES, MOST_NODES};
-use crate::values::{Base, Type};
 use crate::write::{if_else, of};
 
 /// A sheet whose commands are dropped, repeated, swapped, cut or given other operands.
@@ -138,8 +139,8 @@ pub fn misfit(writer: &mut Writer) -> Vec<u8> {
 mod tests {
     use super::super::sheets;
     use super::*;
-    use crate::sheet::Sheet;
-    use crate::stop::Reason;
+    use oracle::sheet::Sheet;
+    use oracle::stop::Reason;
 
     #[test]
     fn every_stop_from_2_to_8_comes_of_some_fault() {

@@ -17,9 +17,10 @@ mod sheets;
 mod stores;
 mod writer;
 
-use crate::ask::{ask_accepted, MOST_STEPS};
+use oracle::ask::{ask_accepted, MOST_STEPS};
+use oracle::sheet::Sheet;
+
 use crate::case::{Ask, Case};
-use crate::sheet::Sheet;
 use draft::Draft;
 use rng::Rng;
 

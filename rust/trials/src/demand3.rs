@@ -15,21 +15,22 @@
 use std::fmt;
 use std::mem;
 
-use crate::ask::{read_question, Answer, MOST_STEPS};
+use oracle::ask::{read_question, Answer, MOST_STEPS};
+use oracle::plain::{self, Ending};
+use oracle::sheet::Sheet;
+use oracle::store::{well_shaped, ENTRY, MOST_ENTRIES};
+use stops::Stop;
+
 use crate::case::{Ask, Case};
 use crate::compare::Counts;
 use crate::engine::Engine;
-use crate::plain::{self, Ending};
-use crate::sheet::Sheet;
-use crate::stop::Reason;
-use crate::store::{well_shaped, ENTRY, MOST_ENTRIES};
 
 /// How many steps plain Saiga is given.
 pub const PLAIN_LIMIT: u64 = 20_000;
 
-const NULL: i64 = Reason::Null as i64;
-const SPENT: i64 = Reason::Spent as i64;
-const DEPTH: i64 = Reason::Depth as i64;
+const NULL: i64 = Stop::Null as i64;
+const SPENT: i64 = Stop::Spent as i64;
+const DEPTH: i64 = Stop::Depth as i64;
 
 /// What is checked, as it is named in counts and violations.
 const A: &str = "demand 3 (a)";

@@ -1,7 +1,7 @@
 //! The lists of tests/vectors, worked out by a separate reader of document 01.
 
-use oracle::case::read_lists;
-use oracle::{demand3, Oracle};
+use trials::case::read_lists;
+use trials::{demand3, Oracle};
 
 const BASE: &str = include_str!("../../../../tests/vectors/base.txt");
 

@@ -1,7 +1,7 @@
 //! The examples of docs/STOPS.md.
 
-use oracle::examples::read_examples;
-use oracle::Oracle;
+use trials::examples::read_examples;
+use trials::Oracle;
 
 const PAGE: &str = include_str!("../../../../docs/STOPS.md");
 

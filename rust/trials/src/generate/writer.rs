@@ -1,9 +1,10 @@
 //! Expressions of a wanted type or shape.
 
+use oracle::expr::LONGEST;
+use oracle::values::{Base, Type, Value};
+
 use super::draft::{base_value, Draft};
 use super::rng::Rng;
-use crate::expr::LONGEST;
-use crate::values::{Base, Type, Value};
 use crate::write::if_else;
 
 /// The function types that some value has.
@@ -171,7 +172,7 @@ pub fn wrapped(inner: Vec<u8>, layer: impl Fn(&[u8]) -> Vec<u8>) -> Vec<u8> {
 #[cfg(test)]
 mod tests {
     use super::*;
-    use crate::expr::{Attribute, Expr, Scope};
+    use oracle::expr::{Attribute, Expr, Scope};
 
     #[test]
     fn a_unit_expression_has_the_length_asked_for() {

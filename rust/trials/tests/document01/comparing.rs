@@ -3,10 +3,11 @@
 use std::slice::from_ref;
 
 use crate::common::*;
-use oracle::case::{read_lists, Ask, Case};
-use oracle::shrink::shrink;
-use oracle::soak::soak;
-use oracle::{ask, compare, demand3, Answer, Oracle};
+use oracle::ask;
+use trials::case::{read_lists, Ask, Case};
+use trials::shrink::shrink;
+use trials::soak::soak;
+use trials::{compare, demand3, Answer, Oracle};
 
 const MOST: u64 = 1_000_000;
 

@@ -6,7 +6,7 @@ use oracle::ask::read_question;
 use oracle::plain::{self, Ending};
 use oracle::sheet::Sheet;
 use oracle::values::Value;
-use oracle::Answer;
+use trials::Answer;
 
 const MOST: u64 = 1_000_000;
 

@@ -1,12 +1,13 @@
 //! First stores: new, used, wrong in their values, or refused.
 
+use oracle::ask::ask_accepted;
+use oracle::sheet::Sheet;
+use oracle::store::{ENTRY, MOST_ENTRIES};
+use oracle::values::NULL;
+
 use super::draft::{base_value, Draft};
 use super::questions::question;
 use super::rng::Rng;
-use crate::ask::ask_accepted;
-use crate::sheet::Sheet;
-use crate::store::{ENTRY, MOST_ENTRIES};
-use crate::values::NULL;
 
 /// A first store for the case with a given number: its bytes and the number kept.
 pub fn lent(rng: &mut Rng, number: u64, draft: &Draft, sheet: &Sheet) -> (Vec<u8>, u64) {

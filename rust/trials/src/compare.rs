@@ -3,10 +3,11 @@
 use std::collections::{BTreeMap, BTreeSet};
 use std::fmt;
 
-use crate::ask::Answer;
+use oracle::ask::Answer;
+use oracle::store::{ENTRY, MOST_ENTRIES};
+
 use crate::case::{Ask, Case};
 use crate::engine::{Engine, Oracle};
-use crate::store::{ENTRY, MOST_ENTRIES};
 
 /// What was tried.
 #[derive(Clone, Debug, Default, PartialEq, Eq)]

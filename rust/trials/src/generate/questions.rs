@@ -1,12 +1,13 @@
 //! Questions, good and bad.
 
+use oracle::expr::LONGEST;
+use oracle::sheet::MOST_ATTRIBUTES;
+use oracle::values::{Base, Type, Value};
+
 use super::draft::{base_value, Draft};
 use super::faults::misfit;
 use super::rng::Rng;
 use super::writer::{apply, function_types, literal, number, unit_of_length, Writer};
-use crate::expr::LONGEST;
-use crate::sheet::MOST_ATTRIBUTES;
-use crate::values::{Base, Type, Value};
 use crate::write::{if_else, of};
 
 /// A question, refused once in six or so.

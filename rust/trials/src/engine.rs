@@ -1,9 +1,10 @@
 //! What can be asked: the oracle itself, or an engine under comparison.
 
-use crate::ask::{ask_accepted, refusal, Answer};
-use crate::case::Case;
-use crate::sheet::Sheet;
-use crate::stop::Stop;
+use oracle::ask::{ask_accepted, refusal, Answer};
+use oracle::sheet::Sheet;
+use oracle::stop::Stop;
+
+use crate::case::{Case, Listed};
 
 /// Something that answers as document 01 says, or should.
 pub trait Engine {
@@ -36,6 +37,26 @@ pub fn ask_each<E: Engine + ?Sized>(
         let answer = engine.ask(&case.sheet, &mut store, kept, &ask.question, ask.budget);
         kept = answer.kept as u64;
         each(answer, &store);
+    }
+}
+
+impl Case {
+    /// The case with an engine's answers.
+    pub fn answered<E: Engine + ?Sized>(self, engine: &mut E) -> Listed {
+        let mut store = self.store.clone();
+        let mut kept = self.kept;
+        let mut answers = Vec::new();
+        engine.list(&self, &mut |answer, left| {
+            store.copy_from_slice(left);
+            kept = answer.kept as u64;
+            answers.push(answer);
+        });
+        Listed {
+            case: self,
+            answers,
+            kept,
+            store,
+        }
     }
 }
 

@@ -1,8 +1,8 @@
 //! Sheets and questions that several tests use.
 
 use crate::ask;
-pub use oracle::write::*;
-use oracle::Answer;
+pub use trials::write::*;
+use trials::Answer;
 
 /// L10: own of (node 0's up).
 pub fn l10() -> Vec<u8> {

@@ -3,9 +3,8 @@
 use std::fmt;
 use std::str::SplitWhitespace;
 
-use crate::ask::Answer;
-use crate::engine::Engine;
-use crate::store::ENTRY;
+use oracle::ask::Answer;
+use oracle::store::ENTRY;
 
 /// A question and its budget.
 #[derive(Clone, Debug, PartialEq, Eq)]
@@ -30,26 +29,6 @@ pub struct Listed {
     pub answers: Vec<Answer>,
     pub kept: u64,
     pub store: Vec<u8>,
-}
-
-impl Case {
-    /// The case with an engine's answers.
-    pub fn answered<E: Engine + ?Sized>(self, engine: &mut E) -> Listed {
-        let mut store = self.store.clone();
-        let mut kept = self.kept;
-        let mut answers = Vec::new();
-        engine.list(&self, &mut |answer, left| {
-            store.copy_from_slice(left);
-            kept = answer.kept as u64;
-            answers.push(answer);
-        });
-        Listed {
-            case: self,
-            answers,
-            kept,
-            store,
-        }
-    }
 }
 
 /// How many bytes of a store the kept entries take; a number kept above the capacity takes all of them.

@@ -1,11 +1,12 @@
 //! Sheets by family.
 
+use oracle::expr::LONGEST;
+use oracle::sheet::{LONGEST_SHEET, MOST_ATTRIBUTES, MOST_NODES};
+use oracle::values::{Base, Type, Value};
+
 use super::draft::{base_value, int, Draft};
 use super::rng::Rng;
 use super::writer::{apply, literal, number, unit_of_length, wrapped, Writer};
-use crate::expr::LONGEST;
-use crate::sheet::{LONGEST_SHEET, MOST_ATTRIBUTES, MOST_NODES};
-use crate::values::{Base, Type, Value};
 use crate::write::{if_else, of};
 
 /// A sheet of some family. Nearly all are accepted.
@@ -323,8 +324,8 @@ fn fill(rng: &mut Rng, draft: &mut Draft, length: usize) {
 #[cfg(test)]
 mod tests {
     use super::*;
-    use crate::sheet::Sheet;
-    use crate::stop::Reason;
+    use oracle::sheet::Sheet;
+    use oracle::stop::Reason;
 
     #[test]
     fn every_family_is_accepted() {

@@ -1,7 +1,15 @@
-//! The stops of document 01, with words for each.
+//! The stops of document 01, with words for each: the one table of the library's Rust crate, the twin and what tries them. The second
+//! evaluator has its own.
+//!
+//! It is a crate because the twin, which does not link the library, shares it with the crate that does.
+//!
+//! "Document 01" is the paper "Settings sheets evaluated by Saiga".
+#![forbid(unsafe_code)]
+#![warn(missing_docs)]
+#![cfg_attr(not(test), no_std)]
 
-use std::error::Error;
-use std::fmt;
+use core::error::Error;
+use core::fmt;
 
 /// Why no value is given. The discriminants are document 01's numbers.
 #[derive(Clone, Copy, Debug, PartialEq, Eq, PartialOrd, Ord, Hash)]
@@ -94,6 +102,11 @@ impl Stop {
             _ => Origin::Run,
         }
     }
+
+    /// The stop with a place.
+    pub fn at(self, place: u64) -> Refusal {
+        Refusal { stop: self, place }
+    }
 }
 
 impl fmt::Display for Stop {
@@ -137,18 +150,6 @@ impl fmt::Display for Origin {
 }
 
 /// A stop with its place.
-///
-/// ```
-/// use sofretu::{Origin, Refusal, Sheet, Stop};
-///
-/// let refusal = Sheet::check(&[0x41, 2, 9, 0x5A]).unwrap_err();
-/// assert_eq!(refusal, Refusal { stop: Stop::Operand, place: 0 });
-/// assert_eq!(refusal.stop.origin(), Origin::Author);
-/// assert_eq!(
-///     refusal.to_string(),
-///     "stop 4 at byte 0: a command's operand is outside its values or undeclared"
-/// );
-/// ```
 #[derive(Clone, Copy, Debug, PartialEq, Eq, Hash)]
 pub struct Refusal {
     /// The stop.
@@ -172,6 +173,13 @@ impl fmt::Display for Refusal {
 }
 
 impl Error for Refusal {}
+
+impl From<Stop> for Refusal {
+    /// A stop whose place is 0.
+    fn from(stop: Stop) -> Refusal {
+        stop.at(0)
+    }
+}
 
 #[cfg(test)]
 mod tests {
@@ -198,7 +206,7 @@ mod tests {
 
     #[test]
     fn a_refusal_says_where() {
-        let of = |stop, place| Refusal { stop, place }.to_string();
+        let of = |stop: Stop, place| stop.at(place).to_string();
         assert!(of(Stop::Command, 7).starts_with("stop 2 at byte 7: "));
         assert!(of(Stop::NoDefinition, 65).starts_with("stop 8 at node 2, attribute 1: "));
         assert!(of(Stop::StoreEntry, 3).starts_with("stop 10 at entry 3: "));

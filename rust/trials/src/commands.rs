@@ -3,13 +3,14 @@
 use std::fs;
 use std::process::ExitCode;
 
-use crate::ask::read_question;
+use oracle::ask::read_question;
+use oracle::plain;
+use oracle::sheet::Sheet;
+
 use crate::case::{read_lists, Case, Listed};
 use crate::compare::Counts;
 use crate::demand3::{demand3, PLAIN_LIMIT};
 use crate::engine::Engine;
-use crate::plain;
-use crate::sheet::Sheet;
 use crate::soak::soak;
 
 /// An engine and what it is called in messages.

@@ -1,8 +1,9 @@
 //! A sheet before it is written.
 
+use oracle::expr::Attribute;
+use oracle::values::{Base, Value};
+
 use super::rng::Rng;
-use crate::expr::Attribute;
-use crate::values::{Base, Value};
 use crate::write::{attribute, end, figure, node, rule};
 
 #[derive(Clone, Default)]

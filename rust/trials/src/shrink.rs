@@ -2,9 +2,10 @@
 
 mod pieces;
 
-use crate::ask::MOST_STEPS;
+use oracle::ask::MOST_STEPS;
+use oracle::store::ENTRY;
+
 use crate::case::Case;
-use crate::store::ENTRY;
 use pieces::{commands, parts, LEAVES};
 
 /// How often a smaller case is tried, for the sake of time.

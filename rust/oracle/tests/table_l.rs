@@ -1,0 +1,147 @@
+//! Document 01, "Sheet L and its questions": L1 to L13, from bytes written out by hand. `rust/trials` puts many more cases to the evaluator.
+
+use oracle::ask::{ask, read_question};
+use oracle::plain::{self, Ending};
+use oracle::sheet::Sheet;
+use oracle::stop::Reason;
+use oracle::values::Value;
+
+const MOST: u64 = 1_000_000;
+
+const SHEET_L: [u8; 103] = [
+    0x41, 3, 0, 0x41, 2, 0, 0x41, 2,
+    0, // up: a Node; own and dial: Ints; each without parameter
+    0x4E, 0, 0x4E, 1, 0x4E, 1, // node 0 of kind 0, nodes 1 and 2 of kind 1
+    0x56, 0, 0, 0, 0xFF, 0xFF, 0, 0, // node 0: up is null,
+    0x56, 0, 0, 1, 0xBC, 0x02, 0, 0, // own is 700
+    0x56, 1, 0, 0, 0, 0, 0, 0, // node 1: up is node 0,
+    0x56, 1, 0, 1, 0, 0, 0, 0, // own is 0
+    0x56, 2, 0, 0, 0, 0, 0, 0, // node 2: up is node 0,
+    0x56, 2, 0, 1, 0x2B, 0x03, 0, 0, // own is 811
+    0x52, 0, 2, 4, 0, // kind 0's dial:
+    0x22, 1, 0x30, 0x10, // own of this node
+    0x52, 1, 2, 25, 0, // kind 1's dial: IF equal(own)(0) THEN up.dial ELSE own
+    0x20, 0x21, 0x21, 0x14, 1, 0x22, 1, 0x30, 0x10, 0x12, 0, 0, 0, 0, //
+    0x22, 2, 0x22, 0, 0x30, 0x10, 0x10, //
+    0x22, 1, 0x30, 0x10, //
+    0x5A,
+];
+/// One node, and one attribute defined as itself.
+const SHEET_L12: [u8; 15] = [
+    0x41, 2, 0, 0x4E, 0, 0x52, 0, 0, 4, 0, 0x22, 0, 0x30, 0x10, 0x5A,
+];
+const D: [u8; 6] = [0x22, 2, 0x13, 1, 0, 0x10];
+const DIAL_2: [u8; 6] = [0x22, 2, 0x13, 2, 0, 0x10];
+const L6: [u8; 16] = [
+    0x21, 0x21, 0x14, 1, 0x22, 2, 0x13, 1, 0, 0x10, 0x22, 2, 0x13, 1, 0, 0x10,
+];
+const L10: [u8; 9] = [0x22, 1, 0x22, 0, 0x13, 0, 0, 0x10, 0x10];
+const L12: [u8; 6] = [0x22, 0, 0x13, 0, 0, 0x10];
+const L13: [u8; 14] = [
+    0x21, 0x21, 0x14, 4, 0x12, 0xFF, 0xFF, 0xFF, 0x7F, 0x12, 1, 0, 0, 0,
+];
+
+/// The answer with an empty store of a capacity.
+fn asked(sheet: &[u8], capacity: usize, question: &[u8], budget: u64) -> [i64; 6] {
+    ask(sheet, &mut vec![0; 12 * capacity], 0, question, budget).fields()
+}
+
+#[test]
+fn l1_l4_and_the_lines_of_the_report_program() {
+    let mut store = [0; 12 * 1_024];
+    let mut kept = 0;
+    let mut put = |question: &[u8]| {
+        let answer = ask(&SHEET_L, &mut store, kept, question, MOST);
+        kept = answer.kept as u64;
+        answer.fields()
+    };
+    assert_eq!(put(&D), [0, 0, 2, 700, 8, 5]);
+    assert_eq!(put(&D), [0, 0, 2, 700, 1, 5]);
+    assert_eq!(put(&DIAL_2), [0, 0, 2, 811, 6, 7]);
+    assert_eq!(put(&L10), [14, 0, 0, 0, 1, 8]);
+    let five = [
+        [1, 0, 1, 0, 0, 0, 0, 0, 0, 0, 0, 0],
+        [1, 0, 0, 0, 0, 0, 0, 0, 0, 0, 0, 0],
+        [0, 0, 1, 0, 0, 0, 0, 0, 0xBC, 0x02, 0, 0],
+        [0, 0, 2, 0, 0, 0, 0, 0, 0xBC, 0x02, 0, 0],
+        [1, 0, 2, 0, 0, 0, 0, 0, 0xBC, 0x02, 0, 0],
+    ];
+    assert_eq!(store[..60], five.concat());
+}
+
+#[test]
+fn l2_l3_and_l5_to_l13() {
+    assert_eq!(asked(&SHEET_L, 1_024, &D, 7), [15, 0, 0, 0, 7, 2]);
+    assert_eq!(asked(&SHEET_L, 1_024, &D, 8), [0, 0, 2, 700, 8, 5]);
+    assert_eq!(asked(&SHEET_L, 1_024, &DIAL_2, MOST), [0, 0, 2, 811, 6, 2]);
+    for (capacity, steps, kept) in [(1_024, 11, 5), (0, 18, 0), (4, 17, 4), (5, 11, 5)] {
+        let given = asked(&SHEET_L, capacity, &L6, MOST);
+        assert_eq!(given, [0, 0, 1, 1, steps, kept]);
+    }
+    assert_eq!(asked(&SHEET_L, 1_024, &L10, MOST), [14, 0, 0, 0, 1, 1]);
+    let five = [0x12, 5, 0, 0, 0];
+    assert_eq!(asked(&SHEET_L, 1_024, &five, 0), [0, 0, 2, 5, 0, 0]);
+    assert_eq!(asked(&SHEET_L12, 1_024, &L12, 65), [16, 0, 0, 0, 64, 0]);
+    assert_eq!(asked(&SHEET_L12, 1_024, &L12, 64), [15, 0, 0, 0, 64, 0]);
+    let most = i64::from(i32::MAX);
+    assert_eq!(asked(&SHEET_L, 1_024, &L13, MOST), [0, 0, 2, most, 2, 0]);
+}
+
+#[test]
+fn the_empty_sheet_and_the_shortest() {
+    assert_eq!(asked(&[], 1_024, &[0x10], MOST), [2, 0, 0, 0, 0, 0]);
+    assert_eq!(asked(&[0x5A], 1_024, &[0x10], MOST), [0; 6]);
+}
+
+#[test]
+fn plain_saiga_keeps_nothing() {
+    let ending = |sheet: &[u8], question: &[u8]| {
+        let sheet = Sheet::read(sheet).expect("an accepted sheet");
+        let question = read_question(question, &sheet).expect("an accepted question");
+        plain::run(&sheet, &question, 1_000)
+    };
+    assert_eq!(ending(&SHEET_L, &D), Ending::Value(Value::Int(700), 8));
+    assert_eq!(ending(&SHEET_L, &L6), Ending::Value(Value::Bool(true), 18));
+    assert_eq!(ending(&SHEET_L, &L10), Ending::Null(1));
+    assert_eq!(ending(&SHEET_L12, &L12), Ending::Running(1_000));
+}
+
+#[test]
+fn a_stop_of_each_origin_has_its_number_and_place() {
+    // Node 2's own is said twice.
+    let twice = [&SHEET_L[..63], &SHEET_L[55..]].concat();
+    let stop = Sheet::read(&twice).expect_err("a second figure");
+    assert_eq!((stop.reason, stop.place), (Reason::SecondDefinition, 63));
+    assert_eq!(asked(&twice, 0, &D, MOST), [5, 63, 0, 0, 0, 0]);
+    let no_node = &mut [3, 0, 1, 0, 0, 0, 0, 0, 0, 0, 0, 0];
+    let given = ask(&SHEET_L, no_node, 1, &D, MOST).fields();
+    assert_eq!(given, [10, 0, 0, 0, 0, 1]);
+    assert_eq!(asked(&SHEET_L, 0, &D, MOST + 1), [11, 0, 0, 0, 0, 0]);
+    assert_eq!(asked(&SHEET_L, 0, &[0x30], MOST), [12, 0, 0, 0, 0, 0]);
+    assert_eq!(asked(&SHEET_L, 0, &[0x14, 0], MOST), [13, 0, 0, 0, 0, 0]);
+}
+
+#[test]
+fn stops_have_document_01s_numbers() {
+    let in_order = [
+        Reason::SheetLength,
+        Reason::Command,
+        Reason::TooMany,
+        Reason::Operand,
+        Reason::SecondDefinition,
+        Reason::RuleForm,
+        Reason::RuleType,
+        Reason::NoDefinition,
+        Reason::StoreShape,
+        Reason::StoreEntry,
+        Reason::Budget,
+        Reason::QuestionForm,
+        Reason::QuestionType,
+        Reason::Null,
+        Reason::Spent,
+        Reason::Depth,
+    ];
+    for (number, reason) in (1..).zip(in_order) {
+        assert_eq!(reason as i64, number);
+    }
+}

@@ -1,0 +1,11 @@
+//! What document 01 says, case by case, put to the second evaluator. The cases of `sheet_l` and `stops` are put to `crate::ask`, so that
+//! another test can put them to another engine.
+
+mod common;
+mod comparing;
+mod page;
+mod sheet_l;
+mod stops;
+mod vectors;
+
+use oracle::ask::ask;
