@@ -13,7 +13,11 @@ same-length : tie.Need-same-length
 same-length c = search needs
 
 returns : tie.Need-returns
-returns c = (write-full _ _ _ _ (sym (c .before .is-full .ensures) ∙ c .if1 .taken), c .before .before .before .before .before .pre .0 .linked)
+returns c =
+    let at-is-full = c .before in
+    let at-slice-known = at-is-full .before .before .before in
+    let entry = at-slice-known .before in
+    (write-full _ _ _ _ (sym (at-is-full .is-full .ensures) ∙ c .if1 .taken), entry .pre .0 .linked)
 
 find-requires : tie.Need-find-requires
 find-requires c κs = search needs
@@ -31,10 +35,22 @@ same-length-3 : tie.Need-same-length-3
 same-length-3 c = search needs
 
 returns-2 : tie.Need-returns-2
-returns-2 c = (write-known _ _ _ _ (sym (c .before .before .before .before .before .before .is-full .ensures) ∙ c .before .before .before .before .before .if1 .left) _ (found-at _ _ (c .before .before .find .ensures) refl _ (c .enum-told2 .given .1)), c .before .before .before .before .before .before .before .before .before .before .pre .0 .linked)
+returns-2 c =
+    let at-find = c .before .before in
+    let at-if1 = at-find .before .before .before in
+    let at-is-full = at-if1 .before in
+    let at-slice-known = at-is-full .before .before .before in
+    let entry = at-slice-known .before in
+    (write-known _ _ _ _ (sym (at-is-full .is-full .ensures) ∙ at-if1 .if1 .left) _ (found-at _ _ (at-find .find .ensures) refl _ (c .enum-told2 .given .1)), entry .pre .0 .linked)
 
 keep-requires : tie.Need-keep-requires
-keep-requires c κs = ((c .before .before .before .before .before .before .before .before .before .before .before .before .pre), nothing-found _ _ (c .before .before .before .before .find .ensures) refl (c .before .before .enum-told .given .1))
+keep-requires c κs =
+    let at-enum-told = c .before .before in
+    let at-find = at-enum-told .before .before in
+    let at-if1 = at-find .before .before .before in
+    let at-slice-known2 = at-if1 .before .before .before in
+    let entry = at-slice-known2 .before .before in
+    ((entry .pre), nothing-found _ _ (at-find .find .ensures) refl (at-enum-told .enum-told .given .1))
 
 same-length-4 : tie.Need-same-length-4
 same-length-4 c = search needs

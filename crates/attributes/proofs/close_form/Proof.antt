@@ -43,7 +43,13 @@ shared-slice-read-t11 : tie.Need-shared-slice-read-t11
 shared-slice-read-t11 c = search needs
 
 cast-t22 : tie.Need-cast-t22
-cast-t22 c = omega (arith, c .shared-slice-known4 .given (4 * (c .before .before .before .before .before .before .before .before .before .before .before .before .before .before .before .args .m .forms - 1) + 2))
+cast-t22 c =
+    let at-slice-known3 = c .before .before .before in
+    let at-word-of = at-slice-known3 .before .before .before in
+    let at-cache-write-arg = at-word-of .before .before .before in
+    let at-shared-slice-known = at-cache-write-arg .before .before .before in
+    let entry = at-shared-slice-known .before .before .before in
+    omega (arith, c .shared-slice-known4 .given (4 * (entry .args .m .forms - 1) + 2))
 
 add-t23 : tie.Need-add-t23
 add-t23 c = search needs
@@ -55,7 +61,14 @@ shared-slice-read-t19 : tie.Need-shared-slice-read-t19
 shared-slice-read-t19 c = search needs
 
 cast-t26 : tie.Need-cast-t26
-cast-t26 c = omega (arith, c .shared-slice-known5 .given (4 * (c .before .before .before .before .before .before .before .before .before .before .before .before .before .before .before .before .args .m .forms - 1) + 3))
+cast-t26 c =
+    let at-links = c .before .before .before in
+    let at-cache-write = at-links .before .before .before in
+    let at-cache-write-arg2 = at-cache-write .before .before .before in
+    let at-struct-known = at-cache-write-arg2 .before .before .before in
+    let at-slice-known = at-struct-known .before .before .before in
+    let entry = at-slice-known .before in
+    omega (arith, c .shared-slice-known5 .given (4 * (entry .args .m .forms - 1) + 3))
 
 sub-t27 : tie.Need-sub-t27
 sub-t27 c = search needs
@@ -70,7 +83,14 @@ same-length-2 : tie.Need-same-length-2
 same-length-2 c = search needs
 
 returns : tie.Need-returns
-returns c = (λ words. closes _ words _ (c .before .before .before .before .before .before .before .before .before .before .before .before .before .before .before .before .before .before .args .m) (c .before .before .before .before .before .before .before .before .before .word-of .ensures) (c .before .before .before .before .before .before .before .before .cache-write .ensures .0), c .before .before .before .before .before .before .before .before .cache-write .ensures .1)
+returns c =
+    let at-shared-slice-known4 = c .before .before .before in
+    let at-slice-known3 = at-shared-slice-known4 .before .before .before in
+    let at-word-of = at-slice-known3 .before .before .before in
+    let at-cache-write-arg = at-word-of .before .before .before in
+    let at-shared-slice-known = at-cache-write-arg .before .before .before in
+    let entry = at-shared-slice-known .before .before .before in
+    (λ words. closes _ words _ (entry .args .m) (at-word-of .word-of .ensures) (at-slice-known3 .before .before .cache-write .ensures .0), at-slice-known3 .before .before .cache-write .ensures .1)
 
 pub close-form-spec : {M : Type 1} → statement M
 close-form-spec =

@@ -16,10 +16,19 @@ same-length : tie.Need-same-length
 same-length c = search needs
 
 returns : tie.Need-returns
-returns c = (write-full _ _ _ _ (sym (c .before .is-full .ensures) ∙ c .if1 .taken), c .before .before .before .before .before .pre .0 .0 .linked)
+returns c =
+    let at-is-full = c .before in
+    let at-slice-known = at-is-full .before .before .before in
+    let entry = at-slice-known .before in
+    (write-full _ _ _ _ (sym (at-is-full .is-full .ensures) ∙ c .if1 .taken), entry .pre .0 .0 .linked)
 
 append-requires : tie.Need-append-requires
-append-requires c κs = let room = leb-false (length (c .before .before .before .before .before .before .before .args .store .now) / 12) (c .before .before .before .before .before .before .before .args .kept) (sym (c .before .before .before .is-full .ensures) ∙ c .before .before .if1 .left) in (omega (arith, room, c .before .before .before .before .before .before .before .pre .0 .0 .short), omega (arith, room), c .before .before .before .before .before .before .before .pre .0 .1, c .before .before .before .before .before .before .before .pre .0 .0 .linked)
+append-requires c κs =
+    let at-is-full = c .before .before .before in
+    let at-slice-known = at-is-full .before .before .before in
+    let entry = at-slice-known .before in
+    let room = leb-false (length (entry .args .store .now) / 12) (entry .args .kept) (sym (at-is-full .is-full .ensures) ∙ c .before .before .if1 .left) in
+    (omega (arith, room, entry .pre .0 .0 .short), omega (arith, room), entry .pre .0 .1, entry .pre .0 .0 .linked)
 
 add-result : tie.Need-add-result
 add-result c = search needs
@@ -31,7 +40,14 @@ same-length-3 : tie.Need-same-length-3
 same-length-3 c = search needs
 
 returns-2 : tie.Need-returns-2
-returns-2 c = (write-new _ _ _ _ (sym (c .before .before .before .before .before .before .before .before .is-full .ensures) ∙ c .before .before .before .before .before .before .before .if1 .left) (c .before .before .before .before .before .before .before .before .before .before .before .before .pre .1) (c .before .before .before .before .append .ensures .bytes), c .before .before .before .before .append .ensures .linked)
+returns-2 c =
+    let at-store = c .before .before .before in
+    let at-append = at-store .before in
+    let at-if1 = at-append .before .before .before in
+    let at-is-full = at-if1 .before in
+    let at-slice-known = at-is-full .before .before .before in
+    let entry = at-slice-known .before in
+    (write-new _ _ _ _ (sym (at-is-full .is-full .ensures) ∙ at-if1 .if1 .left) (entry .pre .1) (at-append .append .ensures .bytes), at-append .append .ensures .linked)
 
 pub keep-spec : {M : Type 1} → statement M
 keep-spec =

@@ -18,7 +18,13 @@ enum-told : tie.Need-enum-told
 enum-told c = search needs
 
 open-rule-requires : tie.Need-open-rule-requires
-open-rule-requires c κs = record { rule = record { pair = c .before .before .before .before .before .before .before .before .before .before .before .pre .1 .pair; all = c .before .before .before .before .before .before .before .before .before .before .before .pre .1 .all; ruled = c .before .before .before .before .before .before .before .before .before .before .before .pre .1 .defined (no-place _ _ (c .before .before .before .before .figure .ensures) (c .before .before .enum-told .given .1)) }; form = c .before .before .before .before .before .before .before .before .before .before .before .pre .1 .form }
+open-rule-requires c κs =
+    let at-enum-told = c .before .before in
+    let at-figure = at-enum-told .before .before in
+    let at-slice-known2 = at-figure .before .before .before in
+    let at-shared-slice-known = at-slice-known2 .before .before .before in
+    let entry = at-shared-slice-known .before in
+    record { rule = record { pair = entry .pre .1 .pair; all = entry .pre .1 .all; ruled = entry .pre .1 .defined (no-place _ _ (at-figure .figure .ensures) (at-enum-told .enum-told .given .1)) }; form = entry .pre .1 .form }
 
 same-length : tie.Need-same-length
 same-length c = search needs
@@ -27,7 +33,15 @@ same-length-2 : tie.Need-same-length-2
 same-length-2 c = search needs
 
 returns : tie.Need-returns
-returns c = (opens _ _ _ _ _ _ _ _ (c .before .before .before .before .open-rule .ensures _) (sym (c .before .before .before .before .before .before .before .before .before .figure .ensures) ∙ ap figureOf (c .before .before .before .before .before .before .before .enum-told .given .1)), rw (opening-keeps _ _ _ _ _ _ _ _ (c .before .before .before .before .open-rule .ensures (c .before .before .before .before .before .before .before .before .before .before .before .before .before .before .before .before .args .store .now))) (c .before .before .before .before .before .before .before .before .before .before .before .before .before .before .before .before .pre .1 .writes .linked))
+returns c =
+    let at-frames = c .before .before .before in
+    let at-open-rule = at-frames .before in
+    let at-enum-told = at-open-rule .before .before .before in
+    let at-figure = at-enum-told .before .before in
+    let at-slice-known2 = at-figure .before .before .before in
+    let at-shared-slice-known = at-slice-known2 .before .before .before in
+    let entry = at-shared-slice-known .before in
+    (opens _ _ _ _ _ _ _ _ (at-open-rule .open-rule .ensures _) (sym (at-figure .figure .ensures) ∙ ap figureOf (at-enum-told .enum-told .given .1)), rw (opening-keeps _ _ _ _ _ _ _ _ (at-open-rule .open-rule .ensures (entry .args .store .now))) (entry .pre .1 .writes .linked))
 
 cast-keep : tie.Need-cast-keep
 cast-keep c = search needs
@@ -39,7 +53,13 @@ word-of-requires : tie.Need-word-of-requires
 word-of-requires c κs = search needs
 
 keep-requires : tie.Need-keep-requires
-keep-requires c κs = ((c .before .before .before .before .before .before .before .before .before .before .before .before .before .pre .1 .writes, omega (arith, c .before .before .before .before .before .before .before .before .before .before .before .before .before .pre .1 .pair .attribute, c .before .before .before .before .before .before .before .before .before .before .before .before .before .pre .1 .pair .known .attributes-bound)), c .before .before .before .before .before .before .before .before .before .before .before .before .before .pre .0)
+keep-requires c κs =
+    let at-known-told = c .before .before .before in
+    let at-figure = at-known-told .before .before .before in
+    let at-slice-known2 = at-figure .before .before .before in
+    let at-shared-slice-known = at-slice-known2 .before .before .before in
+    let entry = at-shared-slice-known .before in
+    ((entry .pre .1 .writes, omega (arith, entry .pre .1 .pair .attribute, entry .pre .1 .pair .known .attributes-bound)), entry .pre .0)
 
 answered-requires : tie.Need-answered-requires
 answered-requires c κs = search needs
@@ -51,7 +71,15 @@ same-length-4 : tie.Need-same-length-4
 same-length-4 c = search needs
 
 returns-2 : tie.Need-returns-2
-returns-2 c = (rw (c .answered .ensures, figure-is _ _ (c .before .before .before .before .before .before .before .before .before .before .before .before .figure .ensures) _ (c .before .before .before .before .before .before .before .before .before .before .v .given .1)) (answers _ _ _ _ _ _ (c .before .before .before .before .before .before .before .before .before .before .before .before .before .before .before .before .before .before .before .args .m) _ _ _ _ (c .before .before .before .before .before .before .word-of .ensures) (c .before .before .before .before .before .keep .ensures .0)), rw (c .answered .ensures) (c .before .before .before .before .before .keep .ensures .1))
+returns-2 c =
+    let at-slice-known7 = c .before .before .before in
+    let at-word-of = at-slice-known7 .before .before .before in
+    let at-known-told = at-word-of .before .before .before in
+    let at-figure = at-known-told .before .before .before in
+    let at-slice-known2 = at-figure .before .before .before in
+    let at-shared-slice-known = at-slice-known2 .before .before .before in
+    let entry = at-shared-slice-known .before in
+    (rw (c .answered .ensures, figure-is _ _ (at-figure .figure .ensures) _ (at-known-told .before .v .given .1)) (answers _ _ _ _ _ _ (entry .args .m) _ _ _ _ (at-word-of .word-of .ensures) (at-slice-known7 .before .before .keep .ensures .0)), rw (c .answered .ensures) (at-slice-known7 .before .before .keep .ensures .1))
 
 pub open-definition-spec : {M : Type 1} → statement M
 open-definition-spec =

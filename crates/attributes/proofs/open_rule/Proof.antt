@@ -37,7 +37,11 @@ mul-forms-3 : tie.Need-mul-forms-3
 mul-forms-3 c = search needs
 
 slice-write-forms-2 : tie.Need-slice-write-forms-2
-slice-write-forms-2 c = simp length-set (omega (arith, c .before .before .before .before .before .before .before .pre .form .room))
+slice-write-forms-2 c =
+    let at-slice-known2 = c .before .before .before in
+    let at-shared-slice-known = at-slice-known2 .before .before .before in
+    let entry = at-shared-slice-known .before in
+    simp length-set (omega (arith, entry .pre .form .room))
 
 cast-forms-2 : tie.Need-cast-forms-2
 cast-forms-2 c = search needs
@@ -49,37 +53,74 @@ mul-forms-4 : tie.Need-mul-forms-4
 mul-forms-4 c = search needs
 
 slice-write-forms-3 : tie.Need-slice-write-forms-3
-slice-write-forms-3 c = simp length-set (omega (arith, c .before .before .before .before .before .before .before .before .pre .form .room))
+slice-write-forms-3 c =
+    let at-rule = c .before .before .before in
+    let at-shared-slice-known2 = at-rule .before .before .before in
+    let entry = at-shared-slice-known2 .before .before in
+    simp length-set (omega (arith, entry .pre .form .room))
 
 cast-forms-3 : tie.Need-cast-forms-3
 cast-forms-3 c = search needs
 
 add-forms-4 : tie.Need-add-forms-4
-add-forms-4 c = omega (arith, c .before .before .before .before .before .before .before .before .before .pre .form .few)
+add-forms-4 c =
+    let at-rule-start = c .before .before .before in
+    let at-slice-known = at-rule-start .before .before .before in
+    let entry = at-slice-known .before .before .before in
+    omega (arith, entry .pre .form .few)
 
 mul-forms-5 : tie.Need-mul-forms-5
-mul-forms-5 c = omega (arith, c .before .before .before .before .before .before .before .before .before .pre .form .few)
+mul-forms-5 c =
+    let at-rule-start = c .before .before .before in
+    let at-slice-known = at-rule-start .before .before .before in
+    let entry = at-slice-known .before .before .before in
+    omega (arith, entry .pre .form .few)
 
 slice-write-forms-4 : tie.Need-slice-write-forms-4
-slice-write-forms-4 c = simp length-set (omega (arith, c .before .before .before .before .before .before .before .before .before .pre .form .room))
+slice-write-forms-4 c =
+    let at-rule-start = c .before .before .before in
+    let at-slice-known = at-rule-start .before .before .before in
+    let entry = at-slice-known .before .before .before in
+    simp length-set (omega (arith, entry .pre .form .room))
 
 sub-top : tie.Need-sub-top
 sub-top c = search needs
 
 mul-frames : tie.Need-mul-frames
-mul-frames c = omega (arith, c .before .before .before .before .before .before .before .before .before .before .pre .form .shallow)
+mul-frames c =
+    let at-struct-known = c .before .before .before in
+    let at-slice-known2 = at-struct-known .before .before .before in
+    let at-shared-slice-known = at-slice-known2 .before .before .before in
+    let entry = at-shared-slice-known .before in
+    omega (arith, entry .pre .form .shallow)
 
 slice-write-frames : tie.Need-slice-write-frames
 slice-write-frames c = search needs
 
 add-t15 : tie.Need-add-t15
-add-t15 c = let h = rule-short (c .before .before .before .before .before .before .before .before .before .before .pre .rule) (c .before .before .before .before .before .rule .ensures) in omega (arith, h, c .before .before .before .before .rule-start .ensures)
+add-t15 c =
+    let at-struct-known = c .before .before .before in
+    let at-rule = at-struct-known .before .before in
+    let at-shared-slice-known2 = at-rule .before .before .before in
+    let entry = at-shared-slice-known2 .before .before in
+    let h = rule-short (entry .pre .rule) (at-rule .rule .ensures) in
+    omega (arith, h, at-struct-known .before .rule-start .ensures)
 
 add-t16 : tie.Need-add-t16
-add-t16 c = omega (arith, c .before .before .before .before .before .before .before .before .before .before .before .pre .form .few)
+add-t16 c =
+    let at-struct-known2 = c .before .before .before in
+    let at-rule = at-struct-known2 .before .before .before in
+    let at-shared-slice-known2 = at-rule .before .before .before in
+    let entry = at-shared-slice-known2 .before .before in
+    omega (arith, entry .pre .form .few)
 
 add-t24 : tie.Need-add-t24
-add-t24 c = omega (arith, c .before .before .before .before .before .before .before .before .before .before .before .before .pre .form .counts)
+add-t24 c =
+    let at-struct-known3 = c .before .before .before in
+    let at-rule-start = at-struct-known3 .before .before .before in
+    let at-slice-known = at-rule-start .before .before .before in
+    let entry = at-slice-known .before .before .before in
+    omega (arith, entry .pre .form .counts)
 
 same-length : tie.Need-same-length
 same-length c = search needs
@@ -88,7 +129,13 @@ same-length-2 : tie.Need-same-length-2
 same-length-2 c = search needs
 
 returns : tie.Need-returns
-returns c = λ store. rule-runs (c .before .before .before .before .before .before .before .before .before .before .before .before .pre .rule) (c .before .before .before .before .before .before .before .rule .ensures) store _ _ (c .before .before .before .before .before .before .before .before .before .before .before .before .args .m) _ (c .before .before .before .before .before .before .rule-start .ensures)
+returns c =
+    let at-struct-known3 = c .before .before .before in
+    let at-rule-start = at-struct-known3 .before .before .before in
+    let at-rule = at-rule-start .before in
+    let at-shared-slice-known2 = at-rule .before .before .before in
+    let entry = at-shared-slice-known2 .before .before in
+    λ store. rule-runs (entry .pre .rule) (at-rule .rule .ensures) store _ _ (entry .args .m) _ (at-rule-start .rule-start .ensures)
 
 pub open-rule-spec : {M : Type 1} → statement M
 open-rule-spec =

@@ -26,7 +26,14 @@ enum-told : tie.Need-enum-told
 enum-told c = search needs
 
 open-definition-requires : tie.Need-open-definition-requires
-open-definition-requires c κs = (nothing-found _ _ (c .before .before .before .before .before .before .find .ensures) refl (c .before .before .before .before .enum-told .given .1), (c .before .before .before .before .before .before .before .before .before .before .before .before .before .before .before .before .pre))
+open-definition-requires c κs =
+    let at-open-definition-arg = c .before .before .before in
+    let at-find = at-open-definition-arg .before .before .before in
+    let at-word-of = at-find .before .before .before in
+    let at-slice-known2 = at-word-of .before .before .before in
+    let at-shared-slice-known = at-slice-known2 .before .before .before in
+    let entry = at-shared-slice-known .before in
+    (nothing-found _ _ (at-find .find .ensures) refl (at-open-definition-arg .before .enum-told .given .1), (entry .pre))
 
 same-length : tie.Need-same-length
 same-length c = search needs
@@ -41,7 +48,18 @@ same-length-4 : tie.Need-same-length-4
 same-length-4 c = search needs
 
 returns : tie.Need-returns
-returns c = (takes-definition _ _ _ _ (c .before .before .before .before .before .before .before .before .before .before .before .before .before .before .before .before .before .before .before .before .before .before .before .before .before .args .m) _ _ (c .before .before .before .before .before .before .before .before .before .before .before .before .before .before .before .before .before .before .word-of .ensures) (nothing-found _ _ (c .before .before .before .before .before .before .before .before .before .before .before .before .before .before .before .find .ensures) (due-key _ _ (c .before .before .before .before .before .before .before .before .before .before .before .before .before .before .before .before .before .before .word-of .ensures)) (c .before .before .before .before .before .before .before .before .before .before .before .before .before .enum-told .given .1)) (c .before .before .before .before .before .before .before .before .open-definition .ensures .0), c .before .before .before .before .before .before .before .before .open-definition .ensures .1)
+returns c =
+    let at-frames = c .before .before .before in
+    let at-slice-known5 = at-frames .before .before .before in
+    let at-open-definition = at-slice-known5 .before .before in
+    let at-open-definition-arg2 = at-open-definition .before .before .before in
+    let at-enum-told = at-open-definition-arg2 .before .before in
+    let at-find = at-enum-told .before .before in
+    let at-word-of = at-find .before .before .before in
+    let at-slice-known2 = at-word-of .before .before .before in
+    let at-shared-slice-known = at-slice-known2 .before .before .before in
+    let entry = at-shared-slice-known .before in
+    (takes-definition _ _ _ _ (entry .args .m) _ _ (at-word-of .word-of .ensures) (nothing-found _ _ (at-find .find .ensures) (due-key _ _ (at-word-of .word-of .ensures)) (at-enum-told .enum-told .given .1)) (at-open-definition .open-definition .ensures .0), at-open-definition .open-definition .ensures .1)
 
 mul-value-of : tie.Need-mul-value-of
 mul-value-of c = search needs
@@ -53,10 +71,25 @@ shared-slice-read-value-of : tie.Need-shared-slice-read-value-of
 shared-slice-read-value-of c = search needs
 
 value-word-requires : tie.Need-value-word-requires
-value-word-requires c κs = let (below, same) = found-below _ _ _ _ (found-at _ _ (c .before .before .before .before .before .find .ensures) refl _ (c .before .before .before .j .given .1)) in omega (arith, below, c .before .before .before .before .before .before .before .before .before .before .before .before .before .before .before .pre .writes .linked .stands)
+value-word-requires c κs =
+    let at-j = c .before .before .before in
+    let at-find = at-j .before .before in
+    let at-word-of = at-find .before .before .before in
+    let at-slice-known2 = at-word-of .before .before .before in
+    let at-shared-slice-known = at-slice-known2 .before .before .before in
+    let entry = at-shared-slice-known .before in
+    let (below, same) = found-below _ _ _ _ (found-at _ _ (at-find .find .ensures) refl _ (at-j .j .given .1)) in
+    omega (arith, below, entry .pre .writes .linked .stands)
 
 value-of-requires : tie.Need-value-of-requires
-value-of-requires c κs = rw (c .value-word .ensures) (c .before .before .before .before .before .before .before .before .before .before .before .before .before .before .before .before .pre .kept-word _ (found-at _ _ (c .before .before .before .before .before .before .find .ensures) (due-key _ _ (c .before .before .before .before .before .before .before .before .before .word-of .ensures)) _ (c .before .before .before .before .j .given .1)))
+value-of-requires c κs =
+    let at-known-told = c .before .before .before in
+    let at-find = at-known-told .before .before .before in
+    let at-word-of = at-find .before .before .before in
+    let at-slice-known2 = at-word-of .before .before .before in
+    let at-shared-slice-known = at-slice-known2 .before .before .before in
+    let entry = at-shared-slice-known .before in
+    rw (c .value-word .ensures) (entry .pre .kept-word _ (found-at _ _ (at-find .find .ensures) (due-key _ _ (at-word-of .word-of .ensures)) _ (at-known-told .before .j .given .1)))
 
 answered-requires : tie.Need-answered-requires
 answered-requires c κs = search needs
@@ -68,7 +101,15 @@ same-length-6 : tie.Need-same-length-6
 same-length-6 c = search needs
 
 returns-2 : tie.Need-returns-2
-returns-2 c = (rw (c .answered .ensures) (takes-kept _ _ _ _ (c .before .before .before .before .before .before .before .before .before .before .before .before .before .before .before .before .before .before .args .m) _ _ (found-at _ _ (c .before .before .before .before .before .before .before .before .find .ensures) (due-key _ _ (c .before .before .before .before .before .before .before .before .before .before .before .word-of .ensures)) _ (c .before .before .before .before .before .before .j .given .1)) (c .before .before .value-word .ensures) (c .before .value-of .ensures)), rw (c .answered .ensures) (c .before .before .before .before .before .before .before .before .before .before .before .before .before .before .before .before .before .before .pre .writes .linked))
+returns-2 c =
+    let at-value-word = c .before .before in
+    let at-known-told = at-value-word .before .before .before in
+    let at-find = at-known-told .before .before .before in
+    let at-word-of = at-find .before .before .before in
+    let at-slice-known2 = at-word-of .before .before .before in
+    let at-shared-slice-known = at-slice-known2 .before .before .before in
+    let entry = at-shared-slice-known .before in
+    (rw (c .answered .ensures) (takes-kept _ _ _ _ (entry .args .m) _ _ (found-at _ _ (at-find .find .ensures) (due-key _ _ (at-word-of .word-of .ensures)) _ (at-known-told .before .j .given .1)) (at-value-word .value-word .ensures) (c .before .value-of .ensures)), rw (c .answered .ensures) (entry .pre .writes .linked))
 
 pub take-attribute-spec : {M : Type 1} → statement M
 take-attribute-spec =

@@ -30,11 +30,13 @@ same-length c = search needs
 returns : tie.Need-returns
 unfolding takeIf
 returns c =
-    let w = width-of (c .before .before .before .before .before .before .args .e .now) in (
+    let at-truth = c .before .before .before in
+    let entry = at-truth .before .before .before in
+    let w = width-of (entry .args .e .now) in (
       record {
         skip = w .0;
         width = w .1;
-        after = λ store forms. rw (← (c .before .before .before .truth .ensures), c .before .before .if1 .taken);
+        after = λ store forms. rw (← (at-truth .truth .ensures), c .before .before .if1 .taken);
       },
       simp length-set,
     )
@@ -43,7 +45,11 @@ width-requires : tie.Need-width-requires
 width-requires c κs = search needs
 
 add-t10 : tie.Need-add-t10
-add-t10 c = omega (arith, skip-inside (c .before .before .before .before .before .before .pre .0) (c .before .width .ensures))
+add-t10 c =
+    let at-width = c .before in
+    let at-slice-known = at-width .before .before .before in
+    let entry = at-slice-known .before .before in
+    omega (arith, skip-inside (entry .pre .0) (at-width .width .ensures))
 
 sub-t11 : tie.Need-sub-t11
 sub-t11 c = search needs
@@ -53,14 +59,15 @@ add-t12 c = search needs
 
 returns-2 : tie.Need-returns-2
 unfolding takeIf
-returns-2 c = (
-  record {
-    skip = c .before .before .before .width .result;
-    width = c .before .before .before .width .ensures;
-    after = λ store forms. rw (← (c .before .before .before .before .before .truth .ensures), c .before .before .before .before .if1 .left);
-  },
-  refl,
-)
+returns-2 c =
+    let at-width = c .before .before .before in (
+      record {
+        skip = at-width .width .result;
+        width = at-width .width .ensures;
+        after = λ store forms. rw (← (at-width .before .before .truth .ensures), at-width .before .if1 .left);
+      },
+      refl,
+    )
 
 pub take-if-spec : {M : Type 1} → statement M
 take-if-spec =

@@ -253,7 +253,10 @@ read-read-if-requires : (t : ℕ) → read-lts.Need-read-if-requires (
   base-number-reads.Asked,
   base-number-reads.Learnt,
 ) (read-at t) read.Post
-read-read-if-requires t c κs = (omega (arith, c .before .before .before .before .before .before .pre .0, c .before .before .before .if1 .left, c .before .l .given .2), c .before .before .before .before .before .before .pre .1)
+read-read-if-requires t c κs =
+    let at-if1 = c .before .before .before in
+    let entry = at-if1 .before .before .before in
+    (omega (arith, entry .pre .0, at-if1 .if1 .left, c .before .l .given .2), entry .pre .1)
 
 read-read-application-requires : (t : ℕ) → read-lts.Need-read-application-requires (
   read-bool-reads.Asked,
@@ -271,7 +274,10 @@ read-read-application-requires : (t : ℕ) → read-lts.Need-read-application-re
   base-number-reads.Asked,
   base-number-reads.Learnt,
 ) (read-at t) read.Post
-read-read-application-requires t c κs = (omega (arith, c .before .before .before .before .before .before .pre .0, c .before .before .before .if1 .left, c .before .l .given .2), c .before .before .before .before .before .before .pre .1)
+read-read-application-requires t c κs =
+    let at-if1 = c .before .before .before in
+    let entry = at-if1 .before .before .before in
+    (omega (arith, entry .pre .0, at-if1 .if1 .left, c .before .l .given .2), entry .pre .1)
 
 read-read-attribute-requires : (t : ℕ) → read-lts.Need-read-attribute-requires (
   read-bool-reads.Asked,
@@ -289,7 +295,10 @@ read-read-attribute-requires : (t : ℕ) → read-lts.Need-read-attribute-requir
   base-number-reads.Asked,
   base-number-reads.Learnt,
 ) (read-at t) read.Post
-read-read-attribute-requires t c κs = (omega (arith, c .before .before .before .before .before .before .pre .0, c .before .before .before .if1 .left, c .before .l .given .2), c .before .before .before .before .before .before .pre .1)
+read-read-attribute-requires t c κs =
+    let at-if1 = c .before .before .before in
+    let entry = at-if1 .before .before .before in
+    (omega (arith, entry .pre .0, at-if1 .if1 .left, c .before .l .given .2), entry .pre .1)
 
 read-cast-base-number : (t : ℕ) → read-lts.Need-cast-base-number (
   read-bool-reads.Asked,
@@ -363,7 +372,9 @@ read-returns-3 : (t : ℕ) → read-lts.Need-returns-3 (
   base-number-reads.Learnt,
 ) (read-at t) read.Post
 unfolding headOf
-read-returns-3 t c = read-after _ _ _ _ _ (c .before .before .before .before .if1 .left) (ap headOf (c .before .match .keys2)) λ k h. c .read-bool .ensures _ _ _ _
+read-returns-3 t c =
+    let at-match = c .before in
+    read-after _ _ _ _ _ (at-match .before .before .before .if1 .left) (ap headOf (at-match .match .keys2)) λ k h. c .read-bool .ensures _ _ _ _
 
 read-returns-4 : (t : ℕ) → read-lts.Need-returns-4 (
   read-bool-reads.Asked,
@@ -382,7 +393,9 @@ read-returns-4 : (t : ℕ) → read-lts.Need-returns-4 (
   base-number-reads.Learnt,
 ) (read-at t) read.Post
 unfolding headOf
-read-returns-4 t c = read-after _ _ _ _ _ (c .before .before .before .before .if1 .left) (ap headOf (c .before .match .keys3)) λ k h. operand-short _ _ _ _ intT _ (omega arith)
+read-returns-4 t c =
+    let at-match = c .before in
+    read-after _ _ _ _ _ (at-match .before .before .before .if1 .left) (ap headOf (at-match .match .keys3)) λ k h. operand-short _ _ _ _ intT _ (omega arith)
 
 read-returns-5 : (t : ℕ) → read-lts.Need-returns-5 (
   read-bool-reads.Asked,
@@ -401,7 +414,11 @@ read-returns-5 : (t : ℕ) → read-lts.Need-returns-5 (
   base-number-reads.Learnt,
 ) (read-at t) read.Post
 unfolding headOf
-read-returns-5 t c = read-after _ _ _ _ _ (c .before .before .before .before .if1 .left) (ap headOf (c .before .match .keys3)) λ k h. operand-reads _ _ _ _ intT _ (omega arith) (int-word _ (c .before .before .before .before .before .before .before .args .e .now) λ i. c .before .before .before .before .before .shared-slice-known2 .given i .fits)
+read-returns-5 t c =
+    let at-match = c .before in
+    let at-if1 = at-match .before .before .before in
+    let entry = at-if1 .before .before .before in
+    read-after _ _ _ _ _ (at-if1 .if1 .left) (ap headOf (at-match .match .keys3)) λ k h. operand-reads _ _ _ _ intT _ (omega arith) (int-word _ (entry .args .e .now) λ i. at-if1 .before .shared-slice-known2 .given i .fits)
 
 read-returns-6 : (t : ℕ) → read-lts.Need-returns-6 (
   read-bool-reads.Asked,
@@ -420,7 +437,9 @@ read-returns-6 : (t : ℕ) → read-lts.Need-returns-6 (
   base-number-reads.Learnt,
 ) (read-at t) read.Post
 unfolding headOf
-read-returns-6 t c = read-after _ _ _ _ _ (c .before .before .before .before .if1 .left) (ap headOf (c .before .match .keys4)) λ k h. c .read-node .ensures _ _ _ _ refl
+read-returns-6 t c =
+    let at-match = c .before in
+    read-after _ _ _ _ _ (at-match .before .before .before .if1 .left) (ap headOf (at-match .match .keys4)) λ k h. c .read-node .ensures _ _ _ _ refl
 
 read-returns-7 : (t : ℕ) → read-lts.Need-returns-7 (
   read-bool-reads.Asked,
@@ -439,7 +458,9 @@ read-returns-7 : (t : ℕ) → read-lts.Need-returns-7 (
   base-number-reads.Learnt,
 ) (read-at t) read.Post
 unfolding headOf
-read-returns-7 t c = read-after _ _ _ _ _ (c .before .before .before .before .if1 .left) (ap headOf (c .before .match .keys5)) λ k h. c .read-function .ensures _ _ _ _
+read-returns-7 t c =
+    let at-match = c .before in
+    read-after _ _ _ _ _ (at-match .before .before .before .if1 .left) (ap headOf (at-match .match .keys5)) λ k h. c .read-function .ensures _ _ _ _
 
 read-returns-8 : (t : ℕ) → read-lts.Need-returns-8 (
   read-bool-reads.Asked,
@@ -458,7 +479,9 @@ read-returns-8 : (t : ℕ) → read-lts.Need-returns-8 (
   base-number-reads.Learnt,
 ) (read-at t) read.Post
 unfolding headOf
-read-returns-8 t c = read-after _ _ _ _ _ (c .before .before .before .before .if1 .left) (ap headOf (c .before .match .keys6)) (c .read-if .ensures)
+read-returns-8 t c =
+    let at-match = c .before in
+    read-after _ _ _ _ _ (at-match .before .before .before .if1 .left) (ap headOf (at-match .match .keys6)) (c .read-if .ensures)
 
 read-returns-9 : (t : ℕ) → read-lts.Need-returns-9 (
   read-bool-reads.Asked,
@@ -477,7 +500,9 @@ read-returns-9 : (t : ℕ) → read-lts.Need-returns-9 (
   base-number-reads.Learnt,
 ) (read-at t) read.Post
 unfolding headOf
-read-returns-9 t c = read-after _ _ _ _ _ (c .before .before .before .before .if1 .left) (ap headOf (c .before .match .keys7)) (c .read-application .ensures)
+read-returns-9 t c =
+    let at-match = c .before in
+    read-after _ _ _ _ _ (at-match .before .before .before .if1 .left) (ap headOf (at-match .match .keys7)) (c .read-application .ensures)
 
 read-returns-10 : (t : ℕ) → read-lts.Need-returns-10 (
   read-bool-reads.Asked,
@@ -496,7 +521,9 @@ read-returns-10 : (t : ℕ) → read-lts.Need-returns-10 (
   base-number-reads.Learnt,
 ) (read-at t) read.Post
 unfolding headOf
-read-returns-10 t c = read-after _ _ _ _ _ (c .before .before .before .before .if1 .left) (ap headOf (c .before .match .keys8)) (c .read-attribute .ensures)
+read-returns-10 t c =
+    let at-match = c .before in
+    read-after _ _ _ _ _ (at-match .before .before .before .if1 .left) (ap headOf (at-match .match .keys8)) (c .read-attribute .ensures)
 
 read-returns-11 : (t : ℕ) → read-lts.Need-returns-11 (
   read-bool-reads.Asked,
@@ -515,7 +542,9 @@ read-returns-11 : (t : ℕ) → read-lts.Need-returns-11 (
   base-number-reads.Learnt,
 ) (read-at t) read.Post
 unfolding headOf
-read-returns-11 t c = read-after _ _ _ _ _ (c .before .before .before .before .if1 .left) (ap headOf (c .before .match .keys9)) λ k h. this-reads _ _ _ _ _ (eq-eqb _ _ (c .if3 .taken))
+read-returns-11 t c =
+    let at-match = c .before in
+    read-after _ _ _ _ _ (at-match .before .before .before .if1 .left) (ap headOf (at-match .match .keys9)) λ k h. this-reads _ _ _ _ _ (eq-eqb _ _ (c .if3 .taken))
 
 read-returns-12 : (t : ℕ) → read-lts.Need-returns-12 (
   read-bool-reads.Asked,
@@ -534,7 +563,9 @@ read-returns-12 : (t : ℕ) → read-lts.Need-returns-12 (
   base-number-reads.Learnt,
 ) (read-at t) read.Post
 unfolding headOf
-read-returns-12 t c = read-after _ _ _ _ _ (c .before .before .before .before .if1 .left) (ap headOf (c .before .match .keys9)) λ k h. this-refused _ _ _ _ _ (ne-eqb _ _ (c .if3 .left))
+read-returns-12 t c =
+    let at-match = c .before in
+    read-after _ _ _ _ _ (at-match .before .before .before .if1 .left) (ap headOf (at-match .match .keys9)) λ k h. this-refused _ _ _ _ _ (ne-eqb _ _ (c .if3 .left))
 
 read-returns-13 : (t : ℕ) → read-lts.Need-returns-13 (
   read-bool-reads.Asked,
@@ -553,7 +584,9 @@ read-returns-13 : (t : ℕ) → read-lts.Need-returns-13 (
   base-number-reads.Learnt,
 ) (read-at t) read.Post
 unfolding headOf
-read-returns-13 t c = read-after _ _ _ _ _ (c .before .before .before .before .before .if1 .left) (ap headOf (c .before .before .match .keys10)) λ k h. parameter-reads _ _ _ _ _ (eq-eqb _ _ (c .before .if4 .taken)) (c .base-number .ensures)
+read-returns-13 t c =
+    let at-match = c .before .before in
+    read-after _ _ _ _ _ (at-match .before .before .before .if1 .left) (ap headOf (at-match .match .keys10)) λ k h. parameter-reads _ _ _ _ _ (eq-eqb _ _ (c .before .if4 .taken)) (c .base-number .ensures)
 
 read-returns-14 : (t : ℕ) → read-lts.Need-returns-14 (
   read-bool-reads.Asked,
@@ -572,7 +605,9 @@ read-returns-14 : (t : ℕ) → read-lts.Need-returns-14 (
   base-number-reads.Learnt,
 ) (read-at t) read.Post
 unfolding headOf
-read-returns-14 t c = read-after _ _ _ _ _ (c .before .before .before .before .if1 .left) (ap headOf (c .before .match .keys10)) λ k h. parameter-refused _ _ _ _ _ (ne-eqb _ _ (c .if4 .left))
+read-returns-14 t c =
+    let at-match = c .before in
+    read-after _ _ _ _ _ (at-match .before .before .before .if1 .left) (ap headOf (at-match .match .keys10)) λ k h. parameter-refused _ _ _ _ _ (ne-eqb _ _ (c .if4 .left))
 
 read-returns-15 : (t : ℕ) → read-lts.Need-returns-15 (
   read-bool-reads.Asked,
@@ -654,7 +689,11 @@ read-application-read-requires-2 : (t : ℕ) → read-application-lts.Need-read-
   application-number-reads.Asked,
   application-number-reads.Learnt,
 ) (read-application-at t) read-application.Post
-read-application-read-requires-2 t c κs = (omega (arith, c .before .before .before .before .before .before .before .pre .0, c .read-arg .given .2), c .before .before .before .before .before .before .before .pre .1)
+read-application-read-requires-2 t c κs =
+    let at-match = c .before .before .before in
+    let at-shared-slice-known = at-match .before .before .before in
+    let entry = at-shared-slice-known .before in
+    (omega (arith, entry .pre .0, c .read-arg .given .2), entry .pre .1)
 
 read-application-enum-known-n : (t : ℕ) → read-application-lts.Need-enum-known-n (
   read-below t,
@@ -678,7 +717,10 @@ read-application-returns-2 : (t : ℕ) → read-application-lts.Need-returns-2 (
   application-number-reads.Asked,
   application-number-reads.Learnt,
 ) (read-application-at t) read-application.Post
-read-application-returns-2 t c = λ k h. application-stops-argument _ _ _ _ k h (c .before .before .before .before .before .before .before .read .ensures) (c .before .before .before .before .before .m .given .1) (c .before .before .read2 .ensures) (c .enum-told2 .given .1)
+read-application-returns-2 t c =
+    let at-read2 = c .before .before in
+    let at-m = at-read2 .before .before .before in
+    λ k h. application-stops-argument _ _ _ _ k h (at-m .before .before .read .ensures) (at-m .m .given .1) (at-read2 .read2 .ensures) (c .enum-told2 .given .1)
 
 read-application-add-t13 : (t : ℕ) → read-application-lts.Need-add-t13 (
   read-below t,
@@ -686,7 +728,12 @@ read-application-add-t13 : (t : ℕ) → read-application-lts.Need-add-t13 (
   application-number-reads.Asked,
   application-number-reads.Learnt,
 ) (read-application-at t) read-application.Post
-read-application-add-t13 t c = omega (arith, (c .before .before .before .before .before .before .before .before .before .before .before .good), form-width _ _ _ _ (c .before .before .before .before .before .before .before .before .read .ensures) (c .before .before .before .before .before .before .m .given .1))
+read-application-add-t13 t c =
+    let at-read2 = c .before .before .before in
+    let at-m = at-read2 .before .before .before in
+    let at-read = at-m .before .before in
+    let entry = at-read .before .before .before in
+    omega (arith, (entry .good), form-width _ _ _ _ (at-read .read .ensures) (at-m .m .given .1))
 
 read-application-add-t16 : (t : ℕ) → read-application-lts.Need-add-t16 (
   read-below t,
@@ -694,7 +741,12 @@ read-application-add-t16 : (t : ℕ) → read-application-lts.Need-add-t16 (
   application-number-reads.Asked,
   application-number-reads.Learnt,
 ) (read-application-at t) read-application.Post
-read-application-add-t16 t c = omega (arith, (c .before .before .before .before .before .before .before .before .before .before .before .good), form-width _ _ _ _ (c .before .before .before .before .before .before .before .before .read .ensures) (c .before .before .before .before .before .before .m .given .1), c .before .before .before .before .read-arg .given .2, form-width _ _ _ _ (c .before .before .before .read2 .ensures) (c .before .n .given .1))
+read-application-add-t16 t c =
+    let at-read2 = c .before .before .before in
+    let at-m = at-read2 .before .before .before in
+    let at-read = at-m .before .before in
+    let entry = at-read .before .before .before in
+    omega (arith, (entry .good), form-width _ _ _ _ (at-read .read .ensures) (at-m .m .given .1), at-read2 .before .read-arg .given .2, form-width _ _ _ _ (at-read2 .read2 .ensures) (c .before .n .given .1))
 
 read-application-application-number-requires :
     (t : ℕ) → read-application-lts.Need-application-number-requires (
@@ -711,7 +763,11 @@ read-application-returns-3 : (t : ℕ) → read-application-lts.Need-returns-3 (
   application-number-reads.Asked,
   application-number-reads.Learnt,
 ) (read-application-at t) read-application.Post
-read-application-returns-3 t c = λ k h. application-reads _ _ _ _ k h (c .before .before .before .before .before .before .before .before .before .read .ensures) (c .before .before .before .before .before .before .before .m .given .1) (c .before .before .before .before .read2 .ensures) (c .before .before .n .given .1) (c .application-number .ensures)
+read-application-returns-3 t c =
+    let at-n = c .before .before in
+    let at-read2 = at-n .before .before in
+    let at-m = at-read2 .before .before .before in
+    λ k h. application-reads _ _ _ _ k h (at-m .before .before .read .ensures) (at-m .m .given .1) (at-read2 .read2 .ensures) (at-n .n .given .1) (c .application-number .ensures)
 
 read-attribute-returns : (t : ℕ) → read-attribute-lts.Need-returns (
   read-below t,
@@ -775,7 +831,10 @@ read-attribute-read-requires : (t : ℕ) → read-attribute-lts.Need-read-requir
   attribute-number-reads.Asked,
   attribute-number-reads.Learnt,
 ) (read-attribute-at t) read-attribute.Post
-read-attribute-read-requires t c κs = (omega (arith, c .before .before .before .before .before .before .pre .0, c .before .before .before .if1 .left, c .read-arg .given .2), c .before .before .before .before .before .before .pre .1)
+read-attribute-read-requires t c κs =
+    let at-if1 = c .before .before .before in
+    let entry = at-if1 .before .before .before in
+    (omega (arith, entry .pre .0, at-if1 .if1 .left, c .read-arg .given .2), entry .pre .1)
 
 read-attribute-enum-known-m : (t : ℕ) → read-attribute-lts.Need-enum-known-m (
   read-below t,
@@ -799,7 +858,10 @@ read-attribute-returns-3 : (t : ℕ) → read-attribute-lts.Need-returns-3 (
   attribute-number-reads.Asked,
   attribute-number-reads.Learnt,
 ) (read-attribute-at t) read-attribute.Post
-read-attribute-returns-3 t c = λ k h. attribute-stops _ _ _ _ k h (c .before .before .before .before .before .before .if1 .left) (c .before .before .before .before .if2 .left) (c .before .before .read .ensures) (c .enum-told .given .1)
+read-attribute-returns-3 t c =
+    let at-read = c .before .before in
+    let at-if2 = at-read .before .before in
+    λ k h. attribute-stops _ _ _ _ k h (at-if2 .before .before .if1 .left) (at-if2 .if2 .left) (at-read .read .ensures) (c .enum-told .given .1)
 
 read-attribute-add-at : (t : ℕ) → read-attribute-lts.Need-add-at (
   read-below t,
@@ -807,7 +869,12 @@ read-attribute-add-at : (t : ℕ) → read-attribute-lts.Need-add-at (
   attribute-number-reads.Asked,
   attribute-number-reads.Learnt,
 ) (read-attribute-at t) read-attribute.Post
-read-attribute-add-at t c = omega (arith, (c .before .before .before .before .before .before .before .before .before .before .good), c .before .before .before .before .before .before .before .if1 .left, c .before .before .before .before .read-arg .given .2, form-width _ _ _ _ (c .before .before .before .read .ensures) (c .before .m .given .1))
+read-attribute-add-at t c =
+    let at-read = c .before .before .before in
+    let at-read-arg = at-read .before in
+    let at-if1 = at-read-arg .before .before .before in
+    let entry = at-if1 .before .before .before in
+    omega (arith, (entry .good), at-if1 .if1 .left, at-read-arg .read-arg .given .2, form-width _ _ _ _ (at-read .read .ensures) (c .before .m .given .1))
 
 read-attribute-sub-read-2 : (t : ℕ) → read-attribute-lts.Need-sub-read-2 (
   read-below t,
@@ -815,7 +882,10 @@ read-attribute-sub-read-2 : (t : ℕ) → read-attribute-lts.Need-sub-read-2 (
   attribute-number-reads.Asked,
   attribute-number-reads.Learnt,
 ) (read-attribute-at t) read-attribute.Post
-read-attribute-sub-read-2 t c = omega (arith, c .before .before .before .before .before .before .before .if1 .left, c .before .before .before .before .read-arg .given .2, form-width _ _ _ _ (c .before .before .before .read .ensures) (c .before .m .given .1))
+read-attribute-sub-read-2 t c =
+    let at-read = c .before .before .before in
+    let at-read-arg = at-read .before in
+    omega (arith, at-read-arg .before .before .before .if1 .left, at-read-arg .read-arg .given .2, form-width _ _ _ _ (at-read .read .ensures) (c .before .m .given .1))
 
 read-attribute-part-read-start-2 : (t : ℕ) → read-attribute-lts.Need-part-read-start-2 (
   read-below t,
@@ -823,7 +893,10 @@ read-attribute-part-read-start-2 : (t : ℕ) → read-attribute-lts.Need-part-re
   attribute-number-reads.Asked,
   attribute-number-reads.Learnt,
 ) (read-attribute-at t) read-attribute.Post
-read-attribute-part-read-start-2 t c = omega (arith, c .before .before .before .before .before .before .before .if1 .left, c .before .before .before .before .read-arg .given .2, form-width _ _ _ _ (c .before .before .before .read .ensures) (c .before .m .given .1))
+read-attribute-part-read-start-2 t c =
+    let at-read = c .before .before .before in
+    let at-read-arg = at-read .before in
+    omega (arith, at-read-arg .before .before .before .if1 .left, at-read-arg .read-arg .given .2, form-width _ _ _ _ (at-read .read .ensures) (c .before .m .given .1))
 
 read-attribute-part-read-end-2 : (t : ℕ) → read-attribute-lts.Need-part-read-end-2 (
   read-below t,
@@ -839,7 +912,12 @@ read-attribute-read-requires-2 : (t : ℕ) → read-attribute-lts.Need-read-requ
   attribute-number-reads.Asked,
   attribute-number-reads.Learnt,
 ) (read-attribute-at t) read-attribute.Post
-read-attribute-read-requires-2 t c κs = (omega (arith, c .before .before .before .before .before .before .before .before .before .before .before .pre .0, c .read-arg2 .given .2), c .before .before .before .before .before .before .before .before .before .before .before .pre .1)
+read-attribute-read-requires-2 t c κs =
+    let at-match = c .before .before .before in
+    let at-if2 = at-match .before .before .before in
+    let at-shared-slice-known2 = at-if2 .before .before .before in
+    let entry = at-shared-slice-known2 .before .before in
+    (omega (arith, entry .pre .0, c .read-arg2 .given .2), entry .pre .1)
 
 read-attribute-enum-known-o : (t : ℕ) → read-attribute-lts.Need-enum-known-o (
   read-below t,
@@ -863,7 +941,12 @@ read-attribute-returns-4 : (t : ℕ) → read-attribute-lts.Need-returns-4 (
   attribute-number-reads.Asked,
   attribute-number-reads.Learnt,
 ) (read-attribute-at t) read-attribute.Post
-read-attribute-returns-4 t c = λ k h. attribute-stops-parameter _ _ _ _ k h (c .before .before .before .before .before .before .before .before .before .before .before .if1 .left) (c .before .before .before .before .before .before .before .before .before .if2 .left) (c .before .before .before .before .before .before .before .read .ensures) (c .before .before .before .before .before .m .given .1) (c .before .before .read2 .ensures) (c .enum-told2 .given .1)
+read-attribute-returns-4 t c =
+    let at-read2 = c .before .before in
+    let at-m = at-read2 .before .before .before in
+    let at-read = at-m .before .before in
+    let at-if2 = at-read .before .before in
+    λ k h. attribute-stops-parameter _ _ _ _ k h (at-if2 .before .before .if1 .left) (at-if2 .if2 .left) (at-read .read .ensures) (at-m .m .given .1) (at-read2 .read2 .ensures) (c .enum-told2 .given .1)
 
 read-attribute-add-t12 : (t : ℕ) → read-attribute-lts.Need-add-t12 (
   read-below t,
@@ -871,7 +954,13 @@ read-attribute-add-t12 : (t : ℕ) → read-attribute-lts.Need-add-t12 (
   attribute-number-reads.Asked,
   attribute-number-reads.Learnt,
 ) (read-attribute-at t) read-attribute.Post
-read-attribute-add-t12 t c = omega (arith, (c .before .before .before .before .before .before .before .before .before .before .before .before .before .before .before .good), c .before .before .before .before .before .before .before .before .before .before .before .before .if1 .left, c .before .before .before .before .before .before .before .before .before .read-arg .given .2, form-width _ _ _ _ (c .before .before .before .before .before .before .before .before .read .ensures) (c .before .before .before .before .before .before .m .given .1))
+read-attribute-add-t12 t c =
+    let at-read2 = c .before .before .before in
+    let at-m = at-read2 .before .before .before in
+    let at-read-arg = at-m .before .before .before in
+    let at-if1 = at-read-arg .before .before .before in
+    let entry = at-if1 .before .before .before in
+    omega (arith, (entry .good), at-if1 .if1 .left, at-read-arg .read-arg .given .2, form-width _ _ _ _ (at-m .before .before .read .ensures) (at-m .m .given .1))
 
 read-attribute-add-t24 : (t : ℕ) → read-attribute-lts.Need-add-t24 (
   read-below t,
@@ -879,7 +968,13 @@ read-attribute-add-t24 : (t : ℕ) → read-attribute-lts.Need-add-t24 (
   attribute-number-reads.Asked,
   attribute-number-reads.Learnt,
 ) (read-attribute-at t) read-attribute.Post
-read-attribute-add-t24 t c = omega (arith, (c .before .before .before .before .before .before .before .before .before .before .before .before .before .before .before .good), c .before .before .before .before .before .before .before .before .before .before .before .before .if1 .left, c .before .before .before .before .before .before .before .before .before .read-arg .given .2, form-width _ _ _ _ (c .before .before .before .before .before .before .before .before .read .ensures) (c .before .before .before .before .before .before .m .given .1), c .before .before .before .before .read-arg2 .given .2, form-width _ _ _ _ (c .before .before .before .read2 .ensures) (c .before .o .given .1))
+read-attribute-add-t24 t c =
+    let at-read2 = c .before .before .before in
+    let at-m = at-read2 .before .before .before in
+    let at-read-arg = at-m .before .before .before in
+    let at-if1 = at-read-arg .before .before .before in
+    let entry = at-if1 .before .before .before in
+    omega (arith, (entry .good), at-if1 .if1 .left, at-read-arg .read-arg .given .2, form-width _ _ _ _ (at-m .before .before .read .ensures) (at-m .m .given .1), at-read2 .before .read-arg2 .given .2, form-width _ _ _ _ (at-read2 .read2 .ensures) (c .before .o .given .1))
 
 read-attribute-attribute-number-requires :
     (t : ℕ) → read-attribute-lts.Need-attribute-number-requires (
@@ -888,7 +983,14 @@ read-attribute-attribute-number-requires :
       attribute-number-reads.Asked,
       attribute-number-reads.Learnt,
     ) (read-attribute-at t) read-attribute.Post
-read-attribute-attribute-number-requires t c κs = omega (arith, c .before .before .before .before .before .before .before .before .before .before .before .before .before .before .before .pre .1, c .before .before .before .before .before .before .before .before .before .before .if2 .left)
+read-attribute-attribute-number-requires t c κs =
+    let at-read2 = c .before .before .before in
+    let at-m = at-read2 .before .before .before in
+    let at-read-arg = at-m .before .before .before in
+    let at-if2 = at-read-arg .before in
+    let at-shared-slice-known2 = at-if2 .before .before .before in
+    let entry = at-shared-slice-known2 .before .before in
+    omega (arith, entry .pre .1, at-if2 .if2 .left)
 
 read-attribute-returns-5 : (t : ℕ) → read-attribute-lts.Need-returns-5 (
   read-below t,
@@ -896,7 +998,13 @@ read-attribute-returns-5 : (t : ℕ) → read-attribute-lts.Need-returns-5 (
   attribute-number-reads.Asked,
   attribute-number-reads.Learnt,
 ) (read-attribute-at t) read-attribute.Post
-read-attribute-returns-5 t c = λ k h. attribute-reads _ _ _ _ k h (c .before .before .before .before .before .before .before .before .before .before .before .before .before .if1 .left) (c .before .before .before .before .before .before .before .before .before .before .before .if2 .left) (attributes-count _ _) (c .before .before .before .before .before .before .before .before .before .read .ensures) (c .before .before .before .before .before .before .before .m .given .1) (c .before .before .before .before .read2 .ensures) (c .before .before .o .given .1) (λ N X. c .attribute-number .ensures _ N X (c .before .before .before .before .before .before .before .before .before .before .before .if2 .left))
+read-attribute-returns-5 t c =
+    let at-o = c .before .before in
+    let at-read2 = at-o .before .before in
+    let at-m = at-read2 .before .before .before in
+    let at-read = at-m .before .before in
+    let at-if2 = at-read .before .before in
+    λ k h. attribute-reads _ _ _ _ k h (at-if2 .before .before .if1 .left) (at-if2 .if2 .left) (attributes-count _ _) (at-read .read .ensures) (at-m .m .given .1) (at-read2 .read2 .ensures) (at-o .o .given .1) (λ N X. c .attribute-number .ensures _ N X (at-if2 .if2 .left))
 
 read-if-read-requires : (t : ℕ) → read-if-lts.Need-read-requires (
   read-below t,
@@ -960,7 +1068,11 @@ read-if-read-requires-2 : (t : ℕ) → read-if-lts.Need-read-requires-2 (
   if-number-reads.Asked,
   if-number-reads.Learnt,
 ) (read-if-at t) read-if.Post
-read-if-read-requires-2 t c κs = (omega (arith, c .before .before .before .before .before .before .before .pre .0, c .read-arg .given .2), c .before .before .before .before .before .before .before .pre .1)
+read-if-read-requires-2 t c κs =
+    let at-match = c .before .before .before in
+    let at-shared-slice-known = at-match .before .before .before in
+    let entry = at-shared-slice-known .before in
+    (omega (arith, entry .pre .0, c .read-arg .given .2), entry .pre .1)
 
 read-if-enum-known-n : (t : ℕ) → read-if-lts.Need-enum-known-n (
   read-below t,
@@ -984,7 +1096,10 @@ read-if-returns-2 : (t : ℕ) → read-if-lts.Need-returns-2 (
   if-number-reads.Asked,
   if-number-reads.Learnt,
 ) (read-if-at t) read-if.Post
-read-if-returns-2 t c = λ k h. if-stops-then _ _ _ _ k h (c .before .before .before .before .before .before .before .read .ensures) (c .before .before .before .before .before .m .given .1) (c .before .before .read2 .ensures) (c .enum-told2 .given .1)
+read-if-returns-2 t c =
+    let at-read2 = c .before .before in
+    let at-m = at-read2 .before .before .before in
+    λ k h. if-stops-then _ _ _ _ k h (at-m .before .before .read .ensures) (at-m .m .given .1) (at-read2 .read2 .ensures) (c .enum-told2 .given .1)
 
 read-if-add-at : (t : ℕ) → read-if-lts.Need-add-at (
   read-below t,
@@ -992,7 +1107,12 @@ read-if-add-at : (t : ℕ) → read-if-lts.Need-add-at (
   if-number-reads.Asked,
   if-number-reads.Learnt,
 ) (read-if-at t) read-if.Post
-read-if-add-at t c = omega (arith, (c .before .before .before .before .before .before .before .before .before .before .before .good), form-width _ _ _ _ (c .before .before .before .before .before .before .before .before .read .ensures) (c .before .before .before .before .before .before .m .given .1), c .before .before .before .before .read-arg .given .2, form-width _ _ _ _ (c .before .before .before .read2 .ensures) (c .before .n .given .1))
+read-if-add-at t c =
+    let at-read2 = c .before .before .before in
+    let at-m = at-read2 .before .before .before in
+    let at-read = at-m .before .before in
+    let entry = at-read .before .before .before in
+    omega (arith, (entry .good), form-width _ _ _ _ (at-read .read .ensures) (at-m .m .given .1), at-read2 .before .read-arg .given .2, form-width _ _ _ _ (at-read2 .read2 .ensures) (c .before .n .given .1))
 
 read-if-sub-read-2 : (t : ℕ) → read-if-lts.Need-sub-read-2 (
   read-below t,
@@ -1000,7 +1120,10 @@ read-if-sub-read-2 : (t : ℕ) → read-if-lts.Need-sub-read-2 (
   if-number-reads.Asked,
   if-number-reads.Learnt,
 ) (read-if-at t) read-if.Post
-read-if-sub-read-2 t c = omega (arith, form-width _ _ _ _ (c .before .before .before .before .before .before .before .before .read .ensures) (c .before .before .before .before .before .before .m .given .1), c .before .before .before .before .read-arg .given .2, form-width _ _ _ _ (c .before .before .before .read2 .ensures) (c .before .n .given .1))
+read-if-sub-read-2 t c =
+    let at-read2 = c .before .before .before in
+    let at-m = at-read2 .before .before .before in
+    omega (arith, form-width _ _ _ _ (at-m .before .before .read .ensures) (at-m .m .given .1), at-read2 .before .read-arg .given .2, form-width _ _ _ _ (at-read2 .read2 .ensures) (c .before .n .given .1))
 
 read-if-part-read-start-2 : (t : ℕ) → read-if-lts.Need-part-read-start-2 (
   read-below t,
@@ -1008,7 +1131,10 @@ read-if-part-read-start-2 : (t : ℕ) → read-if-lts.Need-part-read-start-2 (
   if-number-reads.Asked,
   if-number-reads.Learnt,
 ) (read-if-at t) read-if.Post
-read-if-part-read-start-2 t c = omega (arith, form-width _ _ _ _ (c .before .before .before .before .before .before .before .before .read .ensures) (c .before .before .before .before .before .before .m .given .1), c .before .before .before .before .read-arg .given .2, form-width _ _ _ _ (c .before .before .before .read2 .ensures) (c .before .n .given .1))
+read-if-part-read-start-2 t c =
+    let at-read2 = c .before .before .before in
+    let at-m = at-read2 .before .before .before in
+    omega (arith, form-width _ _ _ _ (at-m .before .before .read .ensures) (at-m .m .given .1), at-read2 .before .read-arg .given .2, form-width _ _ _ _ (at-read2 .read2 .ensures) (c .before .n .given .1))
 
 read-if-part-read-end-2 : (t : ℕ) → read-if-lts.Need-part-read-end-2 (
   read-below t,
@@ -1024,7 +1150,12 @@ read-if-read-requires-3 : (t : ℕ) → read-if-lts.Need-read-requires-3 (
   if-number-reads.Asked,
   if-number-reads.Learnt,
 ) (read-if-at t) read-if.Post
-read-if-read-requires-3 t c κs = (omega (arith, c .before .before .before .before .before .before .before .before .before .before .before .before .pre .0, c .read-arg2 .given .2), c .before .before .before .before .before .before .before .before .before .before .before .before .pre .1)
+read-if-read-requires-3 t c κs =
+    let at-match2 = c .before .before .before in
+    let at-known-told = at-match2 .before .before .before in
+    let at-read = at-known-told .before .before .before in
+    let entry = at-read .before .before .before in
+    (omega (arith, entry .pre .0, c .read-arg2 .given .2), entry .pre .1)
 
 read-if-enum-known-o : (t : ℕ) → read-if-lts.Need-enum-known-o (
   read-below t,
@@ -1048,7 +1179,12 @@ read-if-returns-3 : (t : ℕ) → read-if-lts.Need-returns-3 (
   if-number-reads.Asked,
   if-number-reads.Learnt,
 ) (read-if-at t) read-if.Post
-read-if-returns-3 t c = λ k h. if-stops-else _ _ _ _ k h (c .before .before .before .before .before .before .before .before .before .before .before .before .read .ensures) (c .before .before .before .before .before .before .before .before .before .before .m .given .1) (c .before .before .before .before .before .before .before .read2 .ensures) (c .before .before .before .before .before .n .given .1) (c .before .before .read3 .ensures) (c .enum-told3 .given .1)
+read-if-returns-3 t c =
+    let at-read3 = c .before .before in
+    let at-n = at-read3 .before .before .before in
+    let at-read2 = at-n .before .before in
+    let at-m = at-read2 .before .before .before in
+    λ k h. if-stops-else _ _ _ _ k h (at-m .before .before .read .ensures) (at-m .m .given .1) (at-read2 .read2 .ensures) (at-n .n .given .1) (at-read3 .read3 .ensures) (c .enum-told3 .given .1)
 
 read-if-add-t16 : (t : ℕ) → read-if-lts.Need-add-t16 (
   read-below t,
@@ -1056,7 +1192,14 @@ read-if-add-t16 : (t : ℕ) → read-if-lts.Need-add-t16 (
   if-number-reads.Asked,
   if-number-reads.Learnt,
 ) (read-if-at t) read-if.Post
-read-if-add-t16 t c = omega (arith, (c .before .before .before .before .before .before .before .before .before .before .before .before .before .before .before .before .good), form-width _ _ _ _ (c .before .before .before .before .before .before .before .before .before .before .before .before .before .read .ensures) (c .before .before .before .before .before .before .before .before .before .before .before .m .given .1))
+read-if-add-t16 t c =
+    let at-read3 = c .before .before .before in
+    let at-n = at-read3 .before .before .before in
+    let at-read-arg = at-n .before .before .before in
+    let at-m = at-read-arg .before .before in
+    let at-read = at-m .before .before in
+    let entry = at-read .before .before .before in
+    omega (arith, (entry .good), form-width _ _ _ _ (at-read .read .ensures) (at-m .m .given .1))
 
 read-if-add-t23 : (t : ℕ) → read-if-lts.Need-add-t23 (
   read-below t,
@@ -1064,7 +1207,14 @@ read-if-add-t23 : (t : ℕ) → read-if-lts.Need-add-t23 (
   if-number-reads.Asked,
   if-number-reads.Learnt,
 ) (read-if-at t) read-if.Post
-read-if-add-t23 t c = omega (arith, (c .before .before .before .before .before .before .before .before .before .before .before .before .before .before .before .before .good), form-width _ _ _ _ (c .before .before .before .before .before .before .before .before .before .before .before .before .before .read .ensures) (c .before .before .before .before .before .before .before .before .before .before .before .m .given .1), c .before .before .before .before .before .before .before .before .before .read-arg .given .2, form-width _ _ _ _ (c .before .before .before .before .before .before .before .before .read2 .ensures) (c .before .before .before .before .before .before .n .given .1))
+read-if-add-t23 t c =
+    let at-read3 = c .before .before .before in
+    let at-n = at-read3 .before .before .before in
+    let at-read-arg = at-n .before .before .before in
+    let at-m = at-read-arg .before .before in
+    let at-read = at-m .before .before in
+    let entry = at-read .before .before .before in
+    omega (arith, (entry .good), form-width _ _ _ _ (at-read .read .ensures) (at-m .m .given .1), at-read-arg .read-arg .given .2, form-width _ _ _ _ (at-n .before .before .read2 .ensures) (at-n .n .given .1))
 
 read-if-add-t24 : (t : ℕ) → read-if-lts.Need-add-t24 (
   read-below t,
@@ -1072,7 +1222,14 @@ read-if-add-t24 : (t : ℕ) → read-if-lts.Need-add-t24 (
   if-number-reads.Asked,
   if-number-reads.Learnt,
 ) (read-if-at t) read-if.Post
-read-if-add-t24 t c = omega (arith, (c .before .before .before .before .before .before .before .before .before .before .before .before .before .before .before .before .good), form-width _ _ _ _ (c .before .before .before .before .before .before .before .before .before .before .before .before .before .read .ensures) (c .before .before .before .before .before .before .before .before .before .before .before .m .given .1), c .before .before .before .before .before .before .before .before .before .read-arg .given .2, form-width _ _ _ _ (c .before .before .before .before .before .before .before .before .read2 .ensures) (c .before .before .before .before .before .before .n .given .1), c .before .before .before .before .read-arg2 .given .2, form-width _ _ _ _ (c .before .before .before .read3 .ensures) (c .before .o .given .1))
+read-if-add-t24 t c =
+    let at-read3 = c .before .before .before in
+    let at-n = at-read3 .before .before .before in
+    let at-read-arg = at-n .before .before .before in
+    let at-m = at-read-arg .before .before in
+    let at-read = at-m .before .before in
+    let entry = at-read .before .before .before in
+    omega (arith, (entry .good), form-width _ _ _ _ (at-read .read .ensures) (at-m .m .given .1), at-read-arg .read-arg .given .2, form-width _ _ _ _ (at-n .before .before .read2 .ensures) (at-n .n .given .1), at-read3 .before .read-arg2 .given .2, form-width _ _ _ _ (at-read3 .read3 .ensures) (c .before .o .given .1))
 
 read-if-if-number-requires : (t : ℕ) → read-if-lts.Need-if-number-requires (
   read-below t,
@@ -1088,7 +1245,13 @@ read-if-returns-4 : (t : ℕ) → read-if-lts.Need-returns-4 (
   if-number-reads.Asked,
   if-number-reads.Learnt,
 ) (read-if-at t) read-if.Post
-read-if-returns-4 t c = λ k h. if-reads _ _ _ _ k h (c .before .before .before .before .before .before .before .before .before .before .before .before .before .before .read .ensures) (c .before .before .before .before .before .before .before .before .before .before .before .before .m .given .1) (c .before .before .before .before .before .before .before .before .before .read2 .ensures) (c .before .before .before .before .before .before .before .n .given .1) (c .before .before .before .before .read3 .ensures) (c .before .before .o .given .1) (c .if-number .ensures)
+read-if-returns-4 t c =
+    let at-o = c .before .before in
+    let at-read3 = at-o .before .before in
+    let at-n = at-read3 .before .before .before in
+    let at-read2 = at-n .before .before in
+    let at-m = at-read2 .before .before .before in
+    λ k h. if-reads _ _ _ _ k h (at-m .before .before .read .ensures) (at-m .m .given .1) (at-read2 .read2 .ensures) (at-n .n .given .1) (at-read3 .read3 .ensures) (at-o .o .given .1) (c .if-number .ensures)
 
 pub +read+read-application+read-attribute+read-if-spec : {M : Type 1} → statement M
 +read+read-application+read-attribute+read-if-spec =

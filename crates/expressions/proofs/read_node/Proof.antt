@@ -32,12 +32,16 @@ returns-2 c = λ s sig p k h. operand-reads s sig p k nodeT _ (c .before .before
     (rw (h, two-bytes _ (c .before .before .before .if1 .left)) (declared-word _ _ (c .if2 .taken)))
 
 returns-3 : tie.Need-returns-3
-returns-3 c = λ s sig p k h. operand-reads s sig p k nodeT _ (c .before .before .before .before .if1 .left)
-    (rw (h, two-bytes _ (c .before .before .before .before .if1 .left)) (null-word _ _ (c .before .if2 .left) (c .if3 .taken)))
+returns-3 c =
+    let at-if2 = c .before in
+    λ s sig p k h. operand-reads s sig p k nodeT _ (at-if2 .before .before .before .if1 .left)
+    (rw (h, two-bytes _ (at-if2 .before .before .before .if1 .left)) (null-word _ _ (at-if2 .if2 .left) (c .if3 .taken)))
 
 returns-4 : tie.Need-returns-4
-returns-4 c = λ s sig p k h. operand-refused s sig p k nodeT _ (c .before .before .before .before .if1 .left)
-    (rw (h, two-bytes _ (c .before .before .before .before .if1 .left)) (no-word _ _ (c .before .if2 .left) (c .if3 .left)))
+returns-4 c =
+    let at-if2 = c .before in
+    λ s sig p k h. operand-refused s sig p k nodeT _ (at-if2 .before .before .before .if1 .left)
+    (rw (h, two-bytes _ (at-if2 .before .before .before .if1 .left)) (no-word _ _ (at-if2 .if2 .left) (c .if3 .left)))
 
 pub read-node-spec : {M : Type 1} → statement M
 read-node-spec =

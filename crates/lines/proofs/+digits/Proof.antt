@@ -76,7 +76,10 @@ digits-element-write-out-2 : (t : ℕ) → digits-lts.Need-element-write-out-2 (
   digits-below t,
   digits.Post,
 ) (digits-at t) digits.Post
-digits-element-write-out-2 t c = omega (arith, more-length (c .before .before .before .before .args .n) (c .before .before .before .if1 .left), c .before .digits .ensures .place)
+digits-element-write-out-2 t c =
+    let at-if1 = c .before .before .before in
+    let entry = at-if1 .before in
+    omega (arith, more-length (entry .args .n) (at-if1 .if1 .left), c .before .digits .ensures .place)
 
 digits-add-result-2 : (t : ℕ) → digits-lts.Need-add-result-2 (
   glyph-reads.Asked,
@@ -84,7 +87,10 @@ digits-add-result-2 : (t : ℕ) → digits-lts.Need-add-result-2 (
   digits-below t,
   digits.Post,
 ) (digits-at t) digits.Post
-digits-add-result-2 t c = omega (arith, more-length (c .before .before .before .before .args .n) (c .before .before .before .if1 .left), c .before .digits .ensures .place)
+digits-add-result-2 t c =
+    let at-if1 = c .before .before .before in
+    let entry = at-if1 .before in
+    omega (arith, more-length (entry .args .n) (at-if1 .if1 .left), c .before .digits .ensures .place)
 
 digits-returns-2 : (t : ℕ) → digits-lts.Need-returns-2 (
   glyph-reads.Asked,
@@ -92,7 +98,10 @@ digits-returns-2 : (t : ℕ) → digits-lts.Need-returns-2 (
   digits-below t,
   digits.Post,
 ) (digits-at t) digits.Post
-digits-returns-2 t c = rw (decimal-more (c .before .before .before .before .args .n) (c .before .before .before .if1 .left), c .glyph2 .ensures) (then-written (c .before .digits .ensures) (one-written _ _ _))
+digits-returns-2 t c =
+    let at-if1 = c .before .before .before in
+    let entry = at-if1 .before in
+    rw (decimal-more (entry .args .n) (at-if1 .if1 .left), c .glyph2 .ensures) (then-written (c .before .digits .ensures) (one-written _ _ _))
 
 pub +digits-spec : {M : Type 1} → statement M
 +digits-spec = close μ-digits λ t. digits-lts.spec (

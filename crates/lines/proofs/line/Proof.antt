@@ -29,10 +29,17 @@ field-requires-5 c κs = search needs
 
 returns : tie.Need-returns
 unfolding lineOf fields
-returns c = let signed = rw (toZ-ofZ (c .before .before .before .before .before .before .before .before .before .before .before .before .fits .value)) at (c .before .before .before .before .signed-field .ensures .0) in
+returns c =
+    let at-field4 = c .before .before in
+    let at-signed-field = at-field4 .before .before in
+    let at-field3 = at-signed-field .before .before in
+    let at-field2 = at-field3 .before .before in
+    let at-field = at-field2 .before .before in
+    let entry = at-field .before .before in
+    let signed = rw (toZ-ofZ (entry .fits .value)) at (at-signed-field .signed-field .ensures .0) in
     let w =
-    then-written (c .before .before .before .before .before .before .before .before .before .before .field .ensures .0) (then-written (c .before .before .before .before .before .before .before .before .field2 .ensures .0) (then-written (c .before .before .before .before .before .before .field3 .ensures .0)
-    (then-written signed (then-written (c .before .before .field4 .ensures .0) (c .field5 .ensures .0))))) in
+    then-written (at-field .field .ensures .0) (then-written (at-field2 .field2 .ensures .0) (then-written (at-field3 .field3 .ensures .0)
+    (then-written signed (then-written (at-field4 .field4 .ensures .0) (c .field5 .ensures .0))))) in
     (w .place ∙ zero-add _, (w .bytes, omega arith))
 
 pub line-spec : {M : Type 1} → statement M

@@ -23,9 +23,12 @@ field-requires : tie.Need-field-requires
 field-requires c κs = omega arith
 
 returns : tie.Need-returns
-returns c = let s = c .before .before .before .before in
+returns c =
+    let at-magnitude = c .before .before .before in
+    let entry = at-magnitude .before in
+    let s = entry in
     let back = toZ-ofZ (s .fits .z) in
-    let m = rw back at (c .before .before .before .magnitude .ensures) in
+    let m = rw back at (at-magnitude .magnitude .ensures) in
     let e = negative-decimal (s .args .z) (rw back at (c .before .before .if1 .taken)) ∙ ap (λ n. 45 ∷ decimal n) (sym m) in
     (rw e (then-written (one-written _ _ _) (c .field .ensures .0)), omega (arith, c .field .ensures .1))
 
@@ -33,9 +36,12 @@ field-requires-2 : tie.Need-field-requires-2
 field-requires-2 c κs = omega arith
 
 returns-2 : tie.Need-returns-2
-returns-2 c = let s = c .before .before .before .before in
+returns-2 c =
+    let at-magnitude = c .before .before .before in
+    let entry = at-magnitude .before in
+    let s = entry in
     let back = toZ-ofZ (s .fits .z) in
-    let m = rw back at (c .before .before .before .magnitude .ensures) in
+    let m = rw back at (at-magnitude .magnitude .ensures) in
     let e = other-decimal (s .args .z) (rw back at (c .before .before .if1 .left)) ∙ ap decimal (sym m) in
     (rw e (c .field2 .ensures .0), omega (arith, c .field2 .ensures .1))
 

@@ -20,8 +20,10 @@ loop-holds c sc f w r = one-ahead r
 
 shared-slice-read-head-shape : tie.Need-shared-slice-read-head-shape Inv-loop μ-loop
 shared-slice-read-head-shape c =
-    let s = c .before .before .before .before .pre in
-    more-inside (c .before .loop-test .taken) (c .before .before .loop .inv (s .scope) (s .expr) (s .width) (s .read))
+    let at-loop = c .before .before in
+    let entry = at-loop .before .before in
+    let s = entry .pre in
+    more-inside (c .before .loop-test .taken) (at-loop .loop .inv (s .scope) (s .expr) (s .width) (s .read))
 
 head-shape-requires : tie.Need-head-shape-requires Inv-loop μ-loop
 head-shape-requires c κs = tt
@@ -31,10 +33,11 @@ loop-again c sc f w r = turn (c .head-shape .ensures) (c .before .before .loop-t
 
 -- What is passed and the expressions still to come lie within the bytes.
 within : (c : tie.After-head-shape Inv-loop μ-loop)
-    → c .before .before .before .loop .left - 1 + c .head-shape .result / 8 + (c .before .before .before .loop .at + c .head-shape .result % 8)
-    ≤ length (c .before .before .before .before .before .args .e .now)
+    → let at-loop = c .before .before .before in
+    at-loop .loop .left - 1 + c .head-shape .result / 8 + (at-loop .loop .at + c .head-shape .result % 8) ≤ length (at-loop .before .before .args .e .now)
 within c =
-    let s = c .before .before .before .before .before .pre in
+    let at-loop = c .before .before .before in
+    let s = at-loop .before .before .pre in
     ahead-within (s .read) (loop-again c (s .scope) (s .expr) (s .width) (s .read))
 
 add-at : tie.Need-add-at Inv-loop μ-loop

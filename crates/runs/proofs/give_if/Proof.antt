@@ -9,11 +9,20 @@ use Rattle.runs.proofs.give_if.Tie as tie
 
 returns : tie.Need-returns
 unfolding steppedOf
-returns c = let (skip, width) = width-of (c .before .before .before .before .args .e .now) in (record { skip = skip; width = width; after = λ store forms. within-spent _ _ (c .before .before .before .before .args .m) _ (c .if1 .taken) }, (λ store forms. refl, refl))
+returns c =
+    let at-shared-slice-known = c .before .before .before in
+    let entry = at-shared-slice-known .before in
+    let (skip, width) = width-of (entry .args .e .now) in
+    (record { skip = skip; width = width; after = λ store forms. within-spent _ _ (entry .args .m) _ (c .if1 .taken) }, (λ store forms. refl, refl))
 
 returns-2 : tie.Need-returns-2
 unfolding steppedOf
-returns-2 c = let (skip, width) = width-of (c .before .before .before .before .before .before .args .e .now) in (record { skip = skip; width = width; after = λ store forms. within-waits _ _ (c .before .before .before .before .before .before .args .m) _ (c .before .before .if1 .left) (c .if2 .taken) }, (λ store forms. refl, refl))
+returns-2 c =
+    let at-if1 = c .before .before in
+    let at-shared-slice-known = at-if1 .before .before .before in
+    let entry = at-shared-slice-known .before in
+    let (skip, width) = width-of (entry .args .e .now) in
+    (record { skip = skip; width = width; after = λ store forms. within-waits _ _ (entry .args .m) _ (at-if1 .if1 .left) (c .if2 .taken) }, (λ store forms. refl, refl))
 
 take-if-requires : tie.Need-take-if-requires
 take-if-requires c κs = search needs
@@ -23,7 +32,13 @@ same-length c = search needs
 
 returns-3 : tie.Need-returns-3
 unfolding steppedOf
-returns-3 c = (record { skip = c .before .before .take-if .ensures .0 .skip; width = c .before .before .take-if .ensures .0 .width; after = λ store forms. c .before .before .take-if .ensures .0 .after store forms ∙ within-goes _ _ (c .before .before .before .before .before .before .before .before .before .before .args .m) _ (c .before .before .before .before .before .before .if1 .left) (c .before .before .before .before .if2 .left) }, (λ store forms. tt, c .before .before .take-if .ensures .1))
+returns-3 c =
+    let at-take-if = c .before .before in
+    let at-if2 = at-take-if .before .before in
+    let at-if1 = at-if2 .before .before in
+    let at-shared-slice-known = at-if1 .before .before .before in
+    let entry = at-shared-slice-known .before in
+    (record { skip = at-take-if .take-if .ensures .0 .skip; width = at-take-if .take-if .ensures .0 .width; after = λ store forms. at-take-if .take-if .ensures .0 .after store forms ∙ within-goes _ _ (entry .args .m) _ (at-if1 .if1 .left) (at-if2 .if2 .left) }, (λ store forms. tt, at-take-if .take-if .ensures .1))
 
 pub give-if-spec : {M : Type 1} → statement M
 give-if-spec = tie.close (tie.spec returns returns-2 take-if-requires same-length returns-3)

@@ -13,14 +13,20 @@ returns c = λ mem. within-spent _ _ (c .before .before .args .m) _ (c .if1 .tak
 
 returns-2 : tie.Need-returns-2
 unfolding steppedOf
-returns-2 c = λ mem. within-waits _ _ (c .before .before .before .before .args .m) _ (c .before .before .if1 .left) (c .if2 .taken)
+returns-2 c =
+    let at-if1 = c .before .before in
+    let entry = at-if1 .before .before in
+    λ mem. within-waits _ _ (entry .args .m) _ (at-if1 .if1 .left) (c .if2 .taken)
 
 take-right-requires : tie.Need-take-right-requires
 take-right-requires c κs = search needs
 
 returns-3 : tie.Need-returns-3
 unfolding steppedOf
-returns-3 c = λ mem. ap (λ r. goes r mem) (c .take-right .ensures) ∙ within-goes _ _ (c .before .before .before .before .before .args .m) _ (c .before .before .before .if1 .left) (c .before .if2 .left)
+returns-3 c =
+    let at-if1 = c .before .before .before in
+    let entry = at-if1 .before .before in
+    λ mem. ap (λ r. goes r mem) (c .take-right .ensures) ∙ within-goes _ _ (entry .args .m) _ (at-if1 .if1 .left) (c .before .if2 .left)
 
 pub give-right-spec : {M : Type 1} → statement M
 give-right-spec = tie.close (tie.spec returns returns-2 take-right-requires returns-3)

@@ -12,7 +12,12 @@ running-requires : tie.Need-running-requires
 running-requires c κs = search needs
 
 read-head-requires : tie.Need-read-head-requires
-read-head-requires c κs = rw (c .before .before .running .ensures) (read-ready (c .before .before .before .before .before .before .before .before .before .before .before .before .pre .represents) (not-true _ (c .before .before .before .if1 .taken)))
+read-head-requires c κs =
+    let at-if1 = c .before .before .before in
+    let at-slice-known3 = at-if1 .before .before .before in
+    let at-shared-slice-known3 = at-slice-known3 .before .before .before in
+    let entry = at-shared-slice-known3 .before .before .before in
+    rw (c .before .before .running .ensures) (read-ready (entry .pre .represents) (not-true _ (at-if1 .if1 .taken)))
 
 same-length : tie.Need-same-length
 same-length c = search needs
@@ -21,22 +26,53 @@ same-length-2 : tie.Need-same-length-2
 same-length-2 c = search needs
 
 returns : tie.Need-returns
-returns c = steps-reading _ _ _ _ _ _ _ _ _ (c .before .before .before .before .before .before .before .before .before .before .before .before .before .before .before .args .m) (not-true _ (c .before .before .before .before .before .before .if1 .taken)) (c .before .before .before .before .before .before .before .before .before .before .before .before .before .before .before .pre .linked) (c .before .before .before .before .before .running .ensures) (c .before .before .read-head .ensures .0)
+returns c =
+    let at-read-head = c .before .before in
+    let at-running = at-read-head .before .before .before in
+    let at-if1 = at-running .before in
+    let at-slice-known3 = at-if1 .before .before .before in
+    let at-shared-slice-known3 = at-slice-known3 .before .before .before in
+    let entry = at-shared-slice-known3 .before .before .before in
+    steps-reading _ _ _ _ _ _ _ _ _ (entry .args .m) (not-true _ (at-if1 .if1 .taken)) (entry .pre .linked) (at-running .running .ensures) (at-read-head .read-head .ensures .0)
 
 returns-2 : tie.Need-returns-2
-returns-2 c = steps-finishing _ _ _ _ _ _ _ _ _ (c .before .before .before .before .before .before .before .before .before .before .before .args .m) (not-false _ (c .before .before .if1 .left)) (c .if2 .taken) (c .before .before .before .before .before .before .before .before .before .before .before .pre .linked)
+returns-2 c =
+    let at-if1 = c .before .before in
+    let at-slice-known3 = at-if1 .before .before .before in
+    let at-shared-slice-known3 = at-slice-known3 .before .before .before in
+    let entry = at-shared-slice-known3 .before .before .before in
+    steps-finishing _ _ _ _ _ _ _ _ _ (entry .args .m) (not-false _ (at-if1 .if1 .left)) (c .if2 .taken) (entry .pre .linked)
 
 sub-top : tie.Need-sub-top
 sub-top c = search needs
 
 mul-w : tie.Need-mul-w
-mul-w c = omega (arith, frames-inside (c .before .before .before .before .before .before .before .before .before .before .before .before .pre .represents), c .before .before .before .before .before .before .before .before .before .before .before .before .pre .represents .holds .words-size)
+mul-w c =
+    let at-if1 = c .before .before .before in
+    let at-slice-known3 = at-if1 .before .before .before in
+    let at-shared-slice-known3 = at-slice-known3 .before .before .before in
+    let entry = at-shared-slice-known3 .before .before .before in
+    omega (arith, frames-inside (entry .pre .represents), entry .pre .represents .holds .words-size)
 
 slice-read-w : tie.Need-slice-read-w
-slice-read-w c = let some = c .before .before .if2 .left in omega (arith, frames-inside (c .before .before .before .before .before .before .before .before .before .before .before .before .before .pre .represents), some)
+slice-read-w c =
+    let at-if2 = c .before .before in
+    let at-struct-known = at-if2 .before .before .before in
+    let at-slice-known2 = at-struct-known .before .before .before in
+    let at-shared-slice-known2 = at-slice-known2 .before .before .before in
+    let entry = at-shared-slice-known2 .before .before in
+    let some = at-if2 .if2 .left in
+    omega (arith, frames-inside (entry .pre .represents), some)
 
 give-requires : tie.Need-give-requires
-give-requires c κs = ((c .before .before .before .before .before .before .before .before .before .before .before .before .before .before .before .before .before .pre), (not-false _ (c .before .before .before .before .before .before .before .before .if1 .left), (let some = c .before .before .before .before .before .before .if2 .left in omega arith), refl))
+give-requires c κs =
+    let at-give-arg = c .before .before .before in
+    let at-if2 = at-give-arg .before .before .before in
+    let at-if1 = at-if2 .before .before in
+    let at-slice-known3 = at-if1 .before .before .before in
+    let at-shared-slice-known3 = at-slice-known3 .before .before .before in
+    let entry = at-shared-slice-known3 .before .before .before in
+    ((entry .pre), (not-false _ (at-if1 .if1 .left), (let some = at-if2 .if2 .left in omega arith), refl))
 
 same-length-3 : tie.Need-same-length-3
 same-length-3 c = search needs
@@ -51,7 +87,17 @@ same-length-6 : tie.Need-same-length-6
 same-length-6 c = search needs
 
 returns-3 : tie.Need-returns-3
-returns-3 c = steps-giving _ _ _ _ _ _ _ _ _ (c .before .before .before .before .before .before .before .before .before .before .before .before .before .before .before .before .before .before .before .before .before .before .before .before .before .before .args .m) (not-false _ (c .before .before .before .before .before .before .before .before .before .before .before .before .before .before .before .before .before .if1 .left)) (c .before .before .before .before .before .before .before .before .before .before .before .before .before .before .before .if2 .left) (c .before .before .before .before .before .before .before .before .give .ensures)
+returns-3 c =
+    let at-frames2 = c .before .before .before in
+    let at-slice-known7 = at-frames2 .before .before .before in
+    let at-give = at-slice-known7 .before .before in
+    let at-give-arg2 = at-give .before .before .before in
+    let at-struct-known3 = at-give-arg2 .before .before .before in
+    let at-if1 = at-struct-known3 .before .before .before in
+    let at-slice-known3 = at-if1 .before .before .before in
+    let at-shared-slice-known3 = at-slice-known3 .before .before .before in
+    let entry = at-shared-slice-known3 .before .before .before in
+    steps-giving _ _ _ _ _ _ _ _ _ (entry .args .m) (not-false _ (at-if1 .if1 .left)) (at-struct-known3 .before .if2 .left) (at-give .give .ensures)
 
 pub step-spec : {M : Type 1} → statement M
 step-spec =

@@ -34,16 +34,34 @@ shared-slice-read-value-of : tie.Need-shared-slice-read-value-of
 shared-slice-read-value-of c = search needs
 
 add-four : tie.Need-add-four
-add-four c = let h = figure-here _ _ _ _ ((c .before .before .before .before .before .pre)) (c .before .if1 .left) in omega arith
+add-four c =
+    let at-if1 = c .before in
+    let at-shared-slice-known = at-if1 .before .before .before in
+    let entry = at-shared-slice-known .before in
+    let h = figure-here _ _ _ _ ((entry .pre)) (at-if1 .if1 .left) in
+    omega arith
 
 four-requires : tie.Need-four-requires
-four-requires c κs = let h = figure-here _ _ _ _ ((c .before .before .before .before .before .pre)) (c .before .if1 .left) in omega arith
+four-requires c κs =
+    let at-if1 = c .before in
+    let at-shared-slice-known = at-if1 .before .before .before in
+    let entry = at-shared-slice-known .before in
+    let h = figure-here _ _ _ _ ((entry .pre)) (at-if1 .if1 .left) in
+    omega arith
 
 value-of-requires : tie.Need-value-of-requires
-value-of-requires c κs = rw (c .four .ensures) (figure-here _ _ _ _ ((c .before .before .before .before .before .before .pre)) (c .before .before .if1 .left) .word)
+value-of-requires c κs =
+    let at-if1 = c .before .before in
+    let at-shared-slice-known = at-if1 .before .before .before in
+    let entry = at-shared-slice-known .before in
+    rw (c .four .ensures) (figure-here _ _ _ _ ((entry .pre)) (at-if1 .if1 .left) .word)
 
 returns-2 : tie.Need-returns-2
-returns-2 c = figure-value _ _ _ (figure-here _ _ _ _ ((c .before .before .before .before .before .before .before .pre)) (c .before .before .before .if1 .left)) _ _ (c .before .four .ensures) (c .value-of .ensures)
+returns-2 c =
+    let at-if1 = c .before .before .before in
+    let at-shared-slice-known = at-if1 .before .before .before in
+    let entry = at-shared-slice-known .before in
+    figure-value _ _ _ (figure-here _ _ _ _ ((entry .pre)) (at-if1 .if1 .left)) _ _ (c .before .four .ensures) (c .value-of .ensures)
 
 pub figure-spec : {M : Type 1} → statement M
 figure-spec =

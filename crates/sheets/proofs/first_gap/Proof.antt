@@ -18,7 +18,10 @@ loop-holds : tie.Need-loop-holds Inv-loop μ-loop
 loop-holds c = (omega arith, (c .before .before .args .nodes, omega arith, refl))
 
 gap-of-node-requires : tie.Need-gap-of-node-requires Inv-loop μ-loop
-gap-of-node-requires c κs = (c .before .before .before .before .pre) (c .before .loop .n) (c .loop-test .taken)
+gap-of-node-requires c κs =
+    let at-loop = c .before in
+    let entry = at-loop .before .before .before in
+    (entry .pre) (at-loop .loop .n) (c .loop-test .taken)
 
 enum-known-place : tie.Need-enum-known-place Inv-loop μ-loop
 enum-known-place c = search needs
@@ -33,10 +36,14 @@ loop-less : tie.Need-loop-less Inv-loop μ-loop
 loop-less c = omega arith
 
 loop-again : tie.Need-loop-again Inv-loop μ-loop
-loop-again c = (omega arith, all-has _ _ _ _ _ (c .before .before .before .loop-test .taken) (c .before .before .before .before .loop .inv .1) (sym (ap gapOf (c .enum-told .given .1)) ∙ c .before .before .gap-of-node .ensures))
+loop-again c =
+    let at-loop-test = c .before .before .before in
+    (omega arith, all-has _ _ _ _ _ (at-loop-test .loop-test .taken) (at-loop-test .before .loop .inv .1) (sym (ap gapOf (c .enum-told .given .1)) ∙ c .before .before .gap-of-node .ensures))
 
 returns : tie.Need-returns Inv-loop μ-loop
-returns c = all-misses _ _ _ _ _ _ (c .before .before .before .before .loop-test .taken) (c .before .before .before .before .before .loop .inv .1) (sym (ap gapOf (c .before .place .given .1)) ∙ c .before .before .before .gap-of-node .ensures)
+returns c =
+    let at-gap-of-node = c .before .before .before in
+    all-misses _ _ _ _ _ _ (at-gap-of-node .before .loop-test .taken) (at-gap-of-node .before .before .loop .inv .1) (sym (ap gapOf (c .before .place .given .1)) ∙ at-gap-of-node .gap-of-node .ensures)
 
 returns-2 : tie.Need-returns-2 Inv-loop μ-loop
 returns-2 c = all-done _ _ _ _ _ (c .loop-test .left) (c .before .loop .inv .1)

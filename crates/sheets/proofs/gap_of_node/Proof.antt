@@ -37,10 +37,18 @@ wide-requires : tie.Need-wide-requires Inv-loop μ-loop
 wide-requires c κs = search needs
 
 loop-holds : tie.Need-loop-holds Inv-loop μ-loop
-loop-holds c = (omega arith, (c .before .before .before .before .args .attributes, omega arith, refl), c .wide .ensures .0)
+loop-holds c =
+    let at-shared-slice-known = c .before .before .before in
+    let entry = at-shared-slice-known .before in
+    (omega arith, (entry .args .attributes, omega arith, refl), c .wide .ensures .0)
 
 is-defined-requires : tie.Need-is-defined-requires Inv-loop μ-loop
-is-defined-requires c κs = let kind = c .before .loop .inv .2 in (c .before .before .before .before .before .before .pre .size, c .before .before .before .before .before .before .pre .node-bound, omega (arith, kind, c .before .before .before .before .before .before .pre .kind-bound), omega (arith, c .loop-test .taken, c .before .before .before .before .before .before .pre .attributes-bound))
+is-defined-requires c κs =
+    let at-loop = c .before in
+    let at-shared-slice-known2 = at-loop .before .before .before in
+    let entry = at-shared-slice-known2 .before .before in
+    let kind = at-loop .loop .inv .2 in
+    (entry .pre .size, entry .pre .node-bound, omega (arith, kind, entry .pre .kind-bound), omega (arith, c .loop-test .taken, entry .pre .attributes-bound))
 
 mul-t15 : tie.Need-mul-t15 Inv-loop μ-loop
 mul-t15 c = search needs

@@ -23,7 +23,9 @@ shared-slice-read-if4 : tie.Need-shared-slice-read-if4
 shared-slice-read-if4 c = search needs
 
 returns-4 : tie.Need-returns-4
-returns-4 c = λ index. stopped (attribute-result _ _ index (c .before .before .before .before .before .if1 .left) (c .before .before .before .before .if2 .left) (c .before .before .if3 .left) (c .if4 .taken))
+returns-4 c =
+    let at-if3 = c .before .before in
+    λ index. stopped (attribute-result _ _ index (at-if3 .before .before .before .if1 .left) (at-if3 .before .before .if2 .left) (at-if3 .if3 .left) (c .if4 .taken))
 
 add-if5 : tie.Need-add-if5
 add-if5 c = search needs
@@ -32,7 +34,10 @@ shared-slice-read-if5 : tie.Need-shared-slice-read-if5
 shared-slice-read-if5 c = search needs
 
 returns-5 : tie.Need-returns-5
-returns-5 c = λ index. stopped (attribute-parameter _ _ index (c .before .before .before .before .before .before .before .if1 .left) (c .before .before .before .before .before .before .if2 .left) (c .before .before .before .before .if3 .left) (c .before .before .if4 .left) (c .if5 .taken))
+returns-5 c =
+    let at-if4 = c .before .before in
+    let at-if3 = at-if4 .before .before in
+    λ index. stopped (attribute-parameter _ _ index (at-if3 .before .before .before .if1 .left) (at-if3 .before .before .if2 .left) (at-if3 .if3 .left) (at-if4 .if4 .left) (c .if5 .taken))
 
 add-t5 : tie.Need-add-t5
 add-t5 c = search needs
@@ -41,7 +46,10 @@ add-t6 : tie.Need-add-t6
 add-t6 c = search needs
 
 returns-6 : tie.Need-returns-6
-returns-6 c = λ index. went-on (attribute-goes-on _ _ index (c .before .before .before .before .before .before .before .before .if1 .left) (c .before .before .before .before .before .before .before .if2 .left) (c .before .before .before .before .before .if3 .left) (c .before .before .before .if4 .left) (c .before .if5 .left))
+returns-6 c =
+    let at-if4 = c .before .before .before in
+    let at-if3 = at-if4 .before .before in
+    λ index. went-on (attribute-goes-on _ _ index (at-if3 .before .before .before .if1 .left) (at-if3 .before .before .if2 .left) (at-if3 .if3 .left) (at-if4 .if4 .left) (c .before .if5 .left))
 
 pub read-attribute-spec : {M : Type 1} → statement M
 read-attribute-spec =

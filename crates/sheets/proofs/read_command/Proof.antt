@@ -37,21 +37,30 @@ same-length c = search needs
 
 returns-3 : tie.Need-returns-3
 unfolding commandOf scanAt
-returns-3 c = read-as _ _ _ node-command (c .before .before .before .before .before .before .if1 .left) (ap commandOf (c .before .before .before .before .match .keys2)) (c .before .before .read-node .ensures)
+returns-3 c =
+    let at-read-node = c .before .before in
+    let at-match = at-read-node .before .before in
+    read-as _ _ _ node-command (at-match .before .before .if1 .left) (ap commandOf (at-match .match .keys2)) (at-read-node .read-node .ensures)
 
 same-length-2 : tie.Need-same-length-2
 same-length-2 c = search needs
 
 returns-4 : tie.Need-returns-4
 unfolding commandOf scanAt
-returns-4 c = read-as _ _ _ figure-command (c .before .before .before .before .before .before .if1 .left) (ap commandOf (c .before .before .before .before .match .keys3)) (c .before .before .read-figure .ensures)
+returns-4 c =
+    let at-read-figure = c .before .before in
+    let at-match = at-read-figure .before .before in
+    read-as _ _ _ figure-command (at-match .before .before .if1 .left) (ap commandOf (at-match .match .keys3)) (at-read-figure .read-figure .ensures)
 
 same-length-3 : tie.Need-same-length-3
 same-length-3 c = search needs
 
 returns-5 : tie.Need-returns-5
 unfolding commandOf scanAt
-returns-5 c = read-as _ _ _ rule-command (c .before .before .before .before .before .before .if1 .left) (ap commandOf (c .before .before .before .before .match .keys4)) (c .before .before .read-rule .ensures)
+returns-5 c =
+    let at-read-rule = c .before .before in
+    let at-match = at-read-rule .before .before in
+    read-as _ _ _ rule-command (at-match .before .before .if1 .left) (ap commandOf (at-match .match .keys4)) (at-read-rule .read-rule .ensures)
 
 returns-6 : tie.Need-returns-6
 unfolding commandOf scanAt

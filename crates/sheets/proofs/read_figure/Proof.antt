@@ -33,10 +33,17 @@ wide-requires : tie.Need-wide-requires
 wide-requires c κs = search needs
 
 returns-3 : tie.Need-returns-3
-returns-3 c = stopped (figure-node _ _ _ (c .before .before .before .before .before .before .if1 .left) _ _ (c .before .before .before .before .before .if2 .left) (c .before .before .before .before .two .ensures) (c .before .before .wide .ensures .0) (c .if3 .taken))
+returns-3 c =
+    let at-wide = c .before .before in
+    let at-if2 = at-wide .before .before .before in
+    stopped (figure-node _ _ _ (at-if2 .before .if1 .left) _ _ (at-if2 .if2 .left) (at-wide .before .before .two .ensures) (at-wide .wide .ensures .0) (c .if3 .taken))
 
 returns-4 : tie.Need-returns-4
-returns-4 c = stopped (figure-attribute _ _ _ (c .before .before .before .before .before .before .before .before .if1 .left) _ _ (c .before .before .before .before .before .before .before .if2 .left) (c .before .before .before .before .before .before .two .ensures) (c .before .before .before .before .wide .ensures .0) (c .before .before .if3 .left) (c .if4 .taken))
+returns-4 c =
+    let at-if3 = c .before .before in
+    let at-wide = at-if3 .before .before in
+    let at-if2 = at-wide .before .before .before in
+    stopped (figure-attribute _ _ _ (at-if2 .before .if1 .left) _ _ (at-if2 .if2 .left) (at-wide .before .before .two .ensures) (at-wide .wide .ensures .0) (at-if3 .if3 .left) (c .if4 .taken))
 
 mul-is-word : tie.Need-mul-is-word
 mul-is-word c = search needs
@@ -57,8 +64,14 @@ is-word-requires : tie.Need-is-word-requires
 is-word-requires c κs = search needs
 
 returns-5 : tie.Need-returns-5
-returns-5 c = stopped
-    (figure-word _ _ _ (c .before .before .before .before .before .before .before .before .before .before .before .before .if1 .left) _ _ (c .before .before .before .before .before .before .before .before .before .before .before .if2 .left) (c .before .before .before .before .before .before .before .before .before .before .two .ensures) (c .before .before .before .before .before .before .before .before .wide .ensures .0) (c .before .before .before .before .before .before .if3 .left) (c .before .before .before .before .if4 .left) _ _ (c .before .before .four .ensures) (c .before .is-word .ensures)
+returns-5 c =
+    let at-four = c .before .before in
+    let at-if4 = at-four .before .before in
+    let at-if3 = at-if4 .before .before in
+    let at-wide = at-if3 .before .before in
+    let at-if2 = at-wide .before .before .before in
+    stopped
+    (figure-word _ _ _ (at-if2 .before .if1 .left) _ _ (at-if2 .if2 .left) (at-wide .before .before .two .ensures) (at-wide .wide .ensures .0) (at-if3 .if3 .left) (at-if4 .if4 .left) _ _ (at-four .four .ensures) (c .before .is-word .ensures)
     (not-true _ (c .if5 .taken)))
 
 mul-place : tie.Need-mul-place
@@ -74,8 +87,14 @@ slice-read-if6 : tie.Need-slice-read-if6
 slice-read-if6 c = search needs
 
 returns-6 : tie.Need-returns-6
-returns-6 c = stopped
-    (figure-twice _ _ _ (c .before .before .before .before .before .before .before .before .before .before .before .before .before .before .if1 .left) _ _ (c .before .before .before .before .before .before .before .before .before .before .before .before .before .if2 .left) (c .before .before .before .before .before .before .before .before .before .before .before .before .two .ensures) (c .before .before .before .before .before .before .before .before .before .before .wide .ensures .0) (c .before .before .before .before .before .before .before .before .if3 .left) (c .before .before .before .before .before .before .if4 .left) _ _ (c .before .before .before .before .four .ensures) (c .before .before .before .is-word .ensures)
+returns-6 c =
+    let at-is-word = c .before .before .before in
+    let at-if4 = at-is-word .before .before .before in
+    let at-if3 = at-if4 .before .before in
+    let at-wide = at-if3 .before .before in
+    let at-if2 = at-wide .before .before .before in
+    stopped
+    (figure-twice _ _ _ (at-if2 .before .if1 .left) _ _ (at-if2 .if2 .left) (at-wide .before .before .two .ensures) (at-wide .wide .ensures .0) (at-if3 .if3 .left) (at-if4 .if4 .left) _ _ (at-is-word .before .four .ensures) (at-is-word .is-word .ensures)
     (not-false _ (c .before .before .if5 .left)) (c .if6 .taken))
 
 add-index : tie.Need-add-index
@@ -97,8 +116,14 @@ same-length : tie.Need-same-length
 same-length c = search needs
 
 returns-7 : tie.Need-returns-7
-returns-7 c = went-on
-    (figure-goes-on _ _ _ (c .before .before .before .before .before .before .before .before .before .before .before .before .before .before .if1 .left) _ _ (c .before .before .before .before .before .before .before .before .before .before .before .before .before .if2 .left) (c .before .before .before .before .before .before .before .before .before .before .before .before .two .ensures) (c .before .before .before .before .before .before .before .before .before .before .wide .ensures .0) (c .before .before .before .before .before .before .before .before .if3 .left) (c .before .before .before .before .before .before .if4 .left) _ _ (c .before .before .before .before .four .ensures) (c .before .before .before .is-word .ensures)
+returns-7 c =
+    let at-is-word = c .before .before .before in
+    let at-if4 = at-is-word .before .before .before in
+    let at-if3 = at-if4 .before .before in
+    let at-wide = at-if3 .before .before in
+    let at-if2 = at-wide .before .before .before in
+    went-on
+    (figure-goes-on _ _ _ (at-if2 .before .if1 .left) _ _ (at-if2 .if2 .left) (at-wide .before .before .two .ensures) (at-wide .wide .ensures .0) (at-if3 .if3 .left) (at-if4 .if4 .left) _ _ (at-is-word .before .four .ensures) (at-is-word .is-word .ensures)
     (not-false _ (c .before .before .if5 .left)) (c .if6 .left))
 
 pub read-figure-spec : {M : Type 1} → statement M

@@ -23,7 +23,9 @@ shared-slice-read-if4 : tie.Need-shared-slice-read-if4
 shared-slice-read-if4 c = search needs
 
 returns-4 : tie.Need-returns-4
-returns-4 c = stopped (node-kind _ _ _ (c .before .before .before .before .before .if1 .left) (c .before .before .before .before .if2 .left) (c .before .before .if3 .left) (c .if4 .taken))
+returns-4 c =
+    let at-if3 = c .before .before in
+    stopped (node-kind _ _ _ (at-if3 .before .before .before .if1 .left) (at-if3 .before .before .if2 .left) (at-if3 .if3 .left) (c .if4 .taken))
 
 mul-clear : tie.Need-mul-clear
 mul-clear c = search needs
@@ -41,7 +43,11 @@ same-length : tie.Need-same-length
 same-length c = search needs
 
 returns-5 : tie.Need-returns-5
-returns-5 c = went-on (node-goes-on _ _ _ (c .before .before .before .before .before .before .before .before .before .before .before .if1 .left) (c .before .before .before .before .before .before .before .before .before .before .if2 .left) _ (c .before .before .before .before .before .before .before .before .if3 .left) (c .before .before .before .before .before .before .if4 .left) (c .before .before .before .clear .ensures))
+returns-5 c =
+    let at-clear = c .before .before .before in
+    let at-if4 = at-clear .before .before .before in
+    let at-if3 = at-if4 .before .before in
+    went-on (node-goes-on _ _ _ (at-if3 .before .before .before .if1 .left) (at-if3 .before .before .if2 .left) _ (at-if3 .if3 .left) (at-if4 .if4 .left) (at-clear .clear .ensures))
 
 pub read-node-spec : {M : Type 1} → statement M
 read-node-spec =

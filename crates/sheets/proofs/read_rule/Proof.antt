@@ -27,7 +27,10 @@ add-end : tie.Need-add-end
 add-end c = search needs
 
 returns-2 : tie.Need-returns-2
-returns-2 c = stopped (rule-cut _ _ _ (c .before .before .before .before .before .pre .0 .parts) _ (c .before .before .if1 .left) (c .before .two .ensures) (c .if2 .taken))
+returns-2 c =
+    let at-if1 = c .before .before in
+    let entry = at-if1 .before .before .before in
+    stopped (rule-cut _ _ _ (entry .pre .0 .parts) _ (at-if1 .if1 .left) (c .before .two .ensures) (c .if2 .taken))
 
 add-wide : tie.Need-add-wide
 add-wide c = search needs
@@ -48,12 +51,23 @@ wide-requires-2 : tie.Need-wide-requires-2
 wide-requires-2 c κs = search needs
 
 returns-3 : tie.Need-returns-3
-returns-3 c = stopped
-    (rule-kind _ _ _ (c .before .before .before .before .before .before .before .before .before .before .pre .0 .parts) _ (c .before .before .before .before .before .before .before .if1 .left) (c .before .before .before .before .before .before .two .ensures) _ _ (c .before .before .before .before .before .if2 .left) (c .before .before .before .wide .ensures .0) (c .before .wide2 .ensures .0) (c .if3 .taken))
+returns-3 c =
+    let at-wide = c .before .before .before in
+    let at-two = at-wide .before .before .before in
+    let at-if1 = at-two .before in
+    let entry = at-if1 .before .before .before in
+    stopped
+    (rule-kind _ _ _ (entry .pre .0 .parts) _ (at-if1 .if1 .left) (at-two .two .ensures) _ _ (at-wide .before .before .if2 .left) (at-wide .wide .ensures .0) (c .before .wide2 .ensures .0) (c .if3 .taken))
 
 returns-4 : tie.Need-returns-4
-returns-4 c = stopped
-    (rule-attribute _ _ _ (c .before .before .before .before .before .before .before .before .before .before .before .pre .0 .parts) _ (c .before .before .before .before .before .before .before .before .if1 .left) (c .before .before .before .before .before .before .before .two .ensures) _ _ (c .before .before .before .before .before .before .if2 .left) (c .before .before .before .before .wide .ensures .0) (c .before .before .wide2 .ensures .0) (c .before .if3 .left) (c .if4 .taken))
+returns-4 c =
+    let at-wide2 = c .before .before in
+    let at-wide = at-wide2 .before .before in
+    let at-two = at-wide .before .before .before in
+    let at-if1 = at-two .before in
+    let entry = at-if1 .before .before .before in
+    stopped
+    (rule-attribute _ _ _ (entry .pre .0 .parts) _ (at-if1 .if1 .left) (at-two .two .ensures) _ _ (at-wide .before .before .if2 .left) (at-wide .wide .ensures .0) (at-wide2 .wide2 .ensures .0) (c .before .if3 .left) (c .if4 .taken))
 
 mul-place : tie.Need-mul-place
 mul-place c = search needs
@@ -71,8 +85,14 @@ slice-read-if5 : tie.Need-slice-read-if5
 slice-read-if5 c = search needs
 
 returns-5 : tie.Need-returns-5
-returns-5 c = stopped
-    (rule-twice _ _ _ (c .before .before .before .before .before .before .before .before .before .before .before .before .before .pre .0 .parts) _ (c .before .before .before .before .before .before .before .before .before .before .if1 .left) (c .before .before .before .before .before .before .before .before .before .two .ensures) _ _ (c .before .before .before .before .before .before .before .before .if2 .left) (c .before .before .before .before .before .before .wide .ensures .0) (c .before .before .before .before .wide2 .ensures .0) (c .before .before .before .if3 .left) (c .before .before .if4 .left)
+returns-5 c =
+    let at-if3 = c .before .before .before in
+    let at-wide = at-if3 .before .before .before in
+    let at-two = at-wide .before .before .before in
+    let at-if1 = at-two .before in
+    let entry = at-if1 .before .before .before in
+    stopped
+    (rule-twice _ _ _ (entry .pre .0 .parts) _ (at-if1 .if1 .left) (at-two .two .ensures) _ _ (at-wide .before .before .if2 .left) (at-wide .wide .ensures .0) (at-if3 .before .wide2 .ensures .0) (at-if3 .if3 .left) (c .before .before .if4 .left)
     (c .if5 .taken))
 
 mul-read-whole : tie.Need-mul-read-whole
@@ -103,9 +123,17 @@ enum-told : tie.Need-enum-told
 enum-told c = search needs
 
 returns-6 : tie.Need-returns-6
-returns-6 c = stopped
-    (rule-no-expression _ _ _ (c .before .before .before .before .before .before .before .before .before .before .before .before .before .before .before .before .before .before .pre .0 .parts) _ (c .before .before .before .before .before .before .before .before .before .before .before .before .before .before .before .if1 .left) (c .before .before .before .before .before .before .before .before .before .before .before .before .before .before .two .ensures) _ _ (c .before .before .before .before .before .before .before .before .before .before .before .before .before .if2 .left) (c .before .before .before .before .before .before .before .before .before .before .before .wide .ensures .0) (c .before .before .before .before .before .before .before .before .before .wide2 .ensures .0) (c .before .before .before .before .before .before .before .before .if3 .left) (c .before .before .before .before .before .before .before .if4 .left)
-    (c .before .before .before .before .before .if5 .left) _ (c .before .before .read-whole .ensures) (c .enum-told .given .1))
+returns-6 c =
+    let at-read-whole = c .before .before in
+    let at-if5 = at-read-whole .before .before .before in
+    let at-if3 = at-if5 .before .before .before in
+    let at-wide = at-if3 .before .before .before in
+    let at-two = at-wide .before .before .before in
+    let at-if1 = at-two .before in
+    let entry = at-if1 .before .before .before in
+    stopped
+    (rule-no-expression _ _ _ (entry .pre .0 .parts) _ (at-if1 .if1 .left) (at-two .two .ensures) _ _ (at-wide .before .before .if2 .left) (at-wide .wide .ensures .0) (at-if3 .before .wide2 .ensures .0) (at-if3 .if3 .left) (at-if5 .before .before .if4 .left)
+    (at-if5 .if5 .left) _ (at-read-whole .read-whole .ensures) (c .enum-told .given .1))
 
 mul-base-number : tie.Need-mul-base-number
 mul-base-number c = search needs
@@ -120,9 +148,19 @@ base-number-requires : tie.Need-base-number-requires
 base-number-requires c κs = search needs
 
 returns-7 : tie.Need-returns-7
-returns-7 c = stopped
-    (rule-type _ _ _ (c .before .before .before .before .before .before .before .before .before .before .before .before .before .before .before .before .before .before .before .before .before .before .pre .0 .parts) _ (c .before .before .before .before .before .before .before .before .before .before .before .before .before .before .before .before .before .before .before .if1 .left) (c .before .before .before .before .before .before .before .before .before .before .before .before .before .before .before .before .before .before .two .ensures) _ _ (c .before .before .before .before .before .before .before .before .before .before .before .before .before .before .before .before .before .if2 .left) (c .before .before .before .before .before .before .before .before .before .before .before .before .before .before .before .wide .ensures .0) (c .before .before .before .before .before .before .before .before .before .before .before .before .before .wide2 .ensures .0) (c .before .before .before .before .before .before .before .before .before .before .before .before .if3 .left) (c .before .before .before .before .before .before .before .before .before .before .before .if4 .left)
-    (c .before .before .before .before .before .before .before .before .before .if5 .left) _ _ (c .before .before .before .before .before .before .read-whole .ensures) (c .before .before .before .before .formed .given .1) λ e. c .if6 .taken (e ∙ sym (c .before .base-number .ensures)))
+returns-7 c =
+    let at-base-number = c .before in
+    let at-formed = at-base-number .before .before .before in
+    let at-read-whole = at-formed .before .before in
+    let at-if5 = at-read-whole .before .before .before in
+    let at-if3 = at-if5 .before .before .before in
+    let at-wide = at-if3 .before .before .before in
+    let at-two = at-wide .before .before .before in
+    let at-if1 = at-two .before in
+    let entry = at-if1 .before .before .before in
+    stopped
+    (rule-type _ _ _ (entry .pre .0 .parts) _ (at-if1 .if1 .left) (at-two .two .ensures) _ _ (at-wide .before .before .if2 .left) (at-wide .wide .ensures .0) (at-if3 .before .wide2 .ensures .0) (at-if3 .if3 .left) (at-if5 .before .before .if4 .left)
+    (at-if5 .if5 .left) _ _ (at-read-whole .read-whole .ensures) (at-formed .formed .given .1) λ e. c .if6 .taken (e ∙ sym (at-base-number .base-number .ensures)))
 
 add-index : tie.Need-add-index
 add-index c = search needs
@@ -140,9 +178,19 @@ same-length : tie.Need-same-length
 same-length c = search needs
 
 returns-8 : tie.Need-returns-8
-returns-8 c = went-on
-    (rule-goes-on _ _ _ (c .before .before .before .before .before .before .before .before .before .before .before .before .before .before .before .before .before .before .before .before .before .before .pre .0 .parts) _ (c .before .before .before .before .before .before .before .before .before .before .before .before .before .before .before .before .before .before .before .if1 .left) (c .before .before .before .before .before .before .before .before .before .before .before .before .before .before .before .before .before .before .two .ensures) _ _ (c .before .before .before .before .before .before .before .before .before .before .before .before .before .before .before .before .before .if2 .left) (c .before .before .before .before .before .before .before .before .before .before .before .before .before .before .before .wide .ensures .0) (c .before .before .before .before .before .before .before .before .before .before .before .before .before .wide2 .ensures .0) (c .before .before .before .before .before .before .before .before .before .before .before .before .if3 .left) (c .before .before .before .before .before .before .before .before .before .before .before .if4 .left)
-    (c .before .before .before .before .before .before .before .before .before .if5 .left) _ _ (c .before .before .before .before .before .before .read-whole .ensures) (c .before .before .before .before .formed .given .1) (c .if6 .left ∙ c .before .base-number .ensures))
+returns-8 c =
+    let at-base-number = c .before in
+    let at-formed = at-base-number .before .before .before in
+    let at-read-whole = at-formed .before .before in
+    let at-if5 = at-read-whole .before .before .before in
+    let at-if3 = at-if5 .before .before .before in
+    let at-wide = at-if3 .before .before .before in
+    let at-two = at-wide .before .before .before in
+    let at-if1 = at-two .before in
+    let entry = at-if1 .before .before .before in
+    went-on
+    (rule-goes-on _ _ _ (entry .pre .0 .parts) _ (at-if1 .if1 .left) (at-two .two .ensures) _ _ (at-wide .before .before .if2 .left) (at-wide .wide .ensures .0) (at-if3 .before .wide2 .ensures .0) (at-if3 .if3 .left) (at-if5 .before .before .if4 .left)
+    (at-if5 .if5 .left) _ _ (at-read-whole .read-whole .ensures) (at-formed .formed .given .1) (c .if6 .left ∙ at-base-number .base-number .ensures))
 
 pub read-rule-spec : {M : Type 1} → statement M
 read-rule-spec =

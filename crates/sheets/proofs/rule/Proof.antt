@@ -36,25 +36,54 @@ mul-place-2 : tie.Need-mul-place-2
 mul-place-2 c = search needs
 
 shared-slice-read-place : tie.Need-shared-slice-read-place
-shared-slice-read-place c = rule-place _ _ _ _ _ ((c .before .before .before .before .before .pre)) _ (c .before .wide .ensures .0)
+shared-slice-read-place c =
+    let at-wide = c .before in
+    let at-shared-slice-known = at-wide .before .before .before in
+    let entry = at-shared-slice-known .before in
+    rule-place _ _ _ _ _ ((entry .pre)) _ (at-wide .wide .ensures .0)
 
 cast-place : tie.Need-cast-place
-cast-place c = let h = rule-here _ _ _ _ _ ((c .before .before .before .before .before .pre)) _ (c .before .wide .ensures .0) in omega arith
+cast-place c =
+    let at-wide = c .before in
+    let at-shared-slice-known = at-wide .before .before .before in
+    let entry = at-shared-slice-known .before in
+    let h = rule-here _ _ _ _ _ ((entry .pre)) _ (at-wide .wide .ensures .0) in
+    omega arith
 
 add-start : tie.Need-add-start
-add-start c = let h = rule-here _ _ _ _ _ ((c .before .before .before .before .before .pre)) _ (c .before .wide .ensures .0) in omega arith
+add-start c =
+    let at-wide = c .before in
+    let at-shared-slice-known = at-wide .before .before .before in
+    let entry = at-shared-slice-known .before in
+    let h = rule-here _ _ _ _ _ ((entry .pre)) _ (at-wide .wide .ensures .0) in
+    omega arith
 
 add-two : tie.Need-add-two
-add-two c = let h = rule-here _ _ _ _ _ ((c .before .before .before .before .before .pre)) _ (c .before .wide .ensures .0) in omega arith
+add-two c =
+    let at-wide = c .before in
+    let at-shared-slice-known = at-wide .before .before .before in
+    let entry = at-shared-slice-known .before in
+    let h = rule-here _ _ _ _ _ ((entry .pre)) _ (at-wide .wide .ensures .0) in
+    omega arith
 
 two-requires : tie.Need-two-requires
-two-requires c κs = let h = rule-here _ _ _ _ _ ((c .before .before .before .before .before .pre)) _ (c .before .wide .ensures .0) in omega arith
+two-requires c κs =
+    let at-wide = c .before in
+    let at-shared-slice-known = at-wide .before .before .before in
+    let entry = at-shared-slice-known .before in
+    let h = rule-here _ _ _ _ _ ((entry .pre)) _ (at-wide .wide .ensures .0) in
+    omega arith
 
 cast-end : tie.Need-cast-end
 cast-end c = search needs
 
 add-end : tie.Need-add-end
-add-end c = let h = rule-here _ _ _ _ _ ((c .before .before .before .before .before .before .pre)) _ (c .before .before .wide .ensures .0) in omega arith
+add-end c =
+    let at-wide = c .before .before in
+    let at-shared-slice-known = at-wide .before .before .before in
+    let entry = at-shared-slice-known .before in
+    let h = rule-here _ _ _ _ _ ((entry .pre)) _ (at-wide .wide .ensures .0) in
+    omega arith
 
 sub-result : tie.Need-sub-result
 sub-result c = search needs
@@ -63,10 +92,19 @@ part-result-start : tie.Need-part-result-start
 part-result-start c = search needs
 
 part-result-end : tie.Need-part-result-end
-part-result-end c = let h = rule-here _ _ _ _ _ ((c .before .before .before .before .before .before .pre)) _ (c .before .before .wide .ensures .0) in omega arith
+part-result-end c =
+    let at-wide = c .before .before in
+    let at-shared-slice-known = at-wide .before .before .before in
+    let entry = at-shared-slice-known .before in
+    let h = rule-here _ _ _ _ _ ((entry .pre)) _ (at-wide .wide .ensures .0) in
+    omega arith
 
 returns : tie.Need-returns
-returns c = rule-piece _ _ _ _ _ ((c .before .before .before .before .before .before .before .pre)) _ (c .before .before .before .wide .ensures .0) _ (c .before .two .ensures)
+returns c =
+    let at-wide = c .before .before .before in
+    let at-shared-slice-known = at-wide .before .before .before in
+    let entry = at-shared-slice-known .before in
+    rule-piece _ _ _ _ _ ((entry .pre)) _ (at-wide .wide .ensures .0) _ (c .before .two .ensures)
 
 pub rule-spec : {M : Type 1} → statement M
 rule-spec =

@@ -38,16 +38,34 @@ mul-result-2 : tie.Need-mul-result-2
 mul-result-2 c = search needs
 
 shared-slice-read-result : tie.Need-shared-slice-read-result
-shared-slice-read-result c = rule-place _ _ _ _ _ ((c .before .before .before .before .before .pre)) _ (c .before .wide .ensures .0)
+shared-slice-read-result c =
+    let at-wide = c .before in
+    let at-shared-slice-known = at-wide .before .before .before in
+    let entry = at-shared-slice-known .before in
+    rule-place _ _ _ _ _ ((entry .pre)) _ (at-wide .wide .ensures .0)
 
 cast-result : tie.Need-cast-result
-cast-result c = let h = rule-here _ _ _ _ _ ((c .before .before .before .before .before .pre)) _ (c .before .wide .ensures .0) in omega arith
+cast-result c =
+    let at-wide = c .before in
+    let at-shared-slice-known = at-wide .before .before .before in
+    let entry = at-shared-slice-known .before in
+    let h = rule-here _ _ _ _ _ ((entry .pre)) _ (at-wide .wide .ensures .0) in
+    omega arith
 
 add-result-3 : tie.Need-add-result-3
-add-result-3 c = let h = rule-here _ _ _ _ _ ((c .before .before .before .before .before .pre)) _ (c .before .wide .ensures .0) in omega arith
+add-result-3 c =
+    let at-wide = c .before in
+    let at-shared-slice-known = at-wide .before .before .before in
+    let entry = at-shared-slice-known .before in
+    let h = rule-here _ _ _ _ _ ((entry .pre)) _ (at-wide .wide .ensures .0) in
+    omega arith
 
 returns : tie.Need-returns
-returns c = ap (λ m. m + 4) (number-is _ _ _ _ _ ((c .before .before .before .before .before .pre)) _ (c .before .wide .ensures .0))
+returns c =
+    let at-wide = c .before in
+    let at-shared-slice-known = at-wide .before .before .before in
+    let entry = at-shared-slice-known .before in
+    ap (λ m. m + 4) (number-is _ _ _ _ _ ((entry .pre)) _ (at-wide .wide .ensures .0))
 
 pub rule-start-spec : {M : Type 1} → statement M
 rule-start-spec =

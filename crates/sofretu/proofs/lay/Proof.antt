@@ -46,11 +46,15 @@ signed-requires-5 c κs = search needs
 
 returns : tie.Need-returns
 unfolding six inSigned answerOf
-returns c = same-six refl refl (toZ-pos w64 {n = c .before .before .before .before .type-code .result} (omega (arith, c .before .before .before .before .type-code .ok)) ∙ ap pos (c .before .before .before .before .type-code .ensures)) (toZ-ofZ {w = w64} (record { sfits = c .before .before .before .decimal .ok }) ∙ c .before .before .before .decimal .ensures) (toZ-ofZ {w = w64} (record { sfits = c .before .before .signed .ok }) ∙ c .before .before .signed .ensures) (toZ-ofZ {w = w64} (record { sfits = c .before .signed2 .ok }) ∙ c .before .signed2 .ensures) ∙ sym (ap (λ a. six (answerOf a)) (c .before .before .before .before .before .before .a .given .1))
+returns c =
+    let at-decimal = c .before .before .before in
+    same-six refl refl (toZ-pos w64 {n = at-decimal .before .type-code .result} (omega (arith, at-decimal .before .type-code .ok)) ∙ ap pos (at-decimal .before .type-code .ensures)) (toZ-ofZ {w = w64} (record { sfits = at-decimal .decimal .ok }) ∙ at-decimal .decimal .ensures) (toZ-ofZ {w = w64} (record { sfits = c .before .before .signed .ok }) ∙ c .before .before .signed .ensures) (toZ-ofZ {w = w64} (record { sfits = c .before .signed2 .ok }) ∙ c .before .signed2 .ensures) ∙ sym (ap (λ a. six (answerOf a)) (at-decimal .before .before .before .a .given .1))
 
 returns-2 : tie.Need-returns-2
 unfolding six answerOf
-returns-2 c = same-six (toZ-pos w64 (omega arith)) (toZ-ofZ {w = w64} (record { sfits = c .before .before .before .signed3 .ok }) ∙ c .before .before .before .signed3 .ensures) refl refl (toZ-ofZ {w = w64} (record { sfits = c .before .before .signed4 .ok }) ∙ c .before .before .signed4 .ensures) (toZ-ofZ {w = w64} (record { sfits = c .before .signed5 .ok }) ∙ c .before .signed5 .ensures) ∙ sym (ap (λ a. six (answerOf a)) (c .before .before .before .before .before .a2 .given .1))
+returns-2 c =
+    let at-signed3 = c .before .before .before in
+    same-six (toZ-pos w64 (omega arith)) (toZ-ofZ {w = w64} (record { sfits = at-signed3 .signed3 .ok }) ∙ at-signed3 .signed3 .ensures) refl refl (toZ-ofZ {w = w64} (record { sfits = c .before .before .signed4 .ok }) ∙ c .before .before .signed4 .ensures) (toZ-ofZ {w = w64} (record { sfits = c .before .signed5 .ok }) ∙ c .before .signed5 .ensures) ∙ sym (ap (λ a. six (answerOf a)) (at-signed3 .before .before .a2 .given .1))
 
 pub lay-spec : {M : Type 1} → statement M
 lay-spec =

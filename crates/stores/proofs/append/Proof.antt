@@ -10,8 +10,12 @@ write-requires c κs = search needs
 
 link-requires : tie.Need-link-requires
 link-requires c κs =
-    let start = c .before .before .before .before .before .before .before .before in
-    let write = c .before .before .before .before .write in
+    let at-store = c .before .before .before in
+    let at-write = at-store .before in
+    let at-slice-known = at-write .before .before .before in
+    let entry = at-slice-known .before in
+    let start = entry in
+    let write = at-write .write in
     let kept = write .kept .0 in
     (start .pre .0, omega arith, rw (write .ensures) (linked-put (start .args .store .now) (start .args .kept) (start .pre .1) _ _ (start .args .index .now) (start .pre .3)))
 
@@ -22,7 +26,10 @@ same-length-2 : tie.Need-same-length-2
 same-length-2 c = search needs
 
 returns : tie.Need-returns
-returns c = record { bytes = c .before .before .before .before .before .before .before .write .ensures; linked = c .before .before .link .ensures }
+returns c =
+    let at-link = c .before .before in
+    let at-slice-known3 = at-link .before .before .before in
+    record { bytes = at-slice-known3 .before .before .write .ensures; linked = at-link .link .ensures }
 
 pub append-spec : {M : Type 1} → statement M
 append-spec = tie.close (tie.spec write-requires link-requires same-length same-length-2 returns)

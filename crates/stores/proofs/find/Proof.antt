@@ -28,7 +28,10 @@ cast-i : tie.Need-cast-i Inv-loop μ-loop
 cast-i c = omega (arith, c .shared-slice-known3 .given (c .before .bucket .result))
 
 loop-holds : tie.Need-loop-holds Inv-loop μ-loop
-loop-holds c = rw (c .before .bucket .ensures .0) (walk-start _ _ _ _ (c .before .before .before .before .pre))
+loop-holds c =
+    let at-bucket = c .before in
+    let entry = at-bucket .before .before .before in
+    rw (at-bucket .bucket .ensures .0) (walk-start _ _ _ _ (entry .pre))
 
 sub-j : tie.Need-sub-j Inv-loop μ-loop
 sub-j c = omega arith
@@ -50,13 +53,25 @@ shared-slice-read-i-2 : tie.Need-shared-slice-read-i-2 Inv-loop μ-loop
 shared-slice-read-i-2 c = omega arith
 
 cast-i-2 : tie.Need-cast-i-2 Inv-loop μ-loop
-cast-i-2 c = omega (arith, c .shared-slice-known4 .given (1024 + (c .before .before .before .before .loop .i - 1)))
+cast-i-2 c =
+    let at-loop-test = c .before .before .before in
+    omega (arith, c .shared-slice-known4 .given (1024 + (at-loop-test .before .loop .i - 1)))
 
 loop-less : tie.Need-loop-less Inv-loop μ-loop
-loop-less c = walk-less _ _ _ _ (c .before .before .before .before .before .before .before .before .before .pre) _ _ (c .before .before .before .before .loop .inv) (omega arith)
+loop-less c =
+    let at-loop-test = c .before .before .before in
+    let at-loop = at-loop-test .before in
+    let at-shared-slice-known2 = at-loop .before .before .before in
+    let entry = at-shared-slice-known2 .before .before in
+    walk-less _ _ _ _ (entry .pre) _ _ (at-loop .loop .inv) (omega arith)
 
 loop-again : tie.Need-loop-again Inv-loop μ-loop
-loop-again c = walk-on _ _ _ _ (c .before .before .before .before .before .before .before .before .before .pre) _ _ (c .before .before .before .before .loop .inv) (omega arith) (sym (c .before .before .has-key .ensures) ∙ c .before .if1 .left)
+loop-again c =
+    let at-has-key = c .before .before in
+    let at-loop = at-has-key .before .before in
+    let at-shared-slice-known2 = at-loop .before .before .before in
+    let entry = at-shared-slice-known2 .before .before in
+    walk-on _ _ _ _ (entry .pre) _ _ (at-loop .loop .inv) (omega arith) (sym (at-has-key .has-key .ensures) ∙ c .before .if1 .left)
 
 returns-2 : tie.Need-returns-2 Inv-loop μ-loop
 unfolding foundOf

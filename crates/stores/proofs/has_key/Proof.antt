@@ -26,7 +26,9 @@ wide-requires c κs = search needs
 
 returns-2 : tie.Need-returns-2
 unfolding sameKey keyAt
-returns-2 c = rw (← c .before .before .before .before .two .ensures, ← c .before .wide .ensures, eq-eqb _ _ (c .before .before .before .if1 .left), ne-eqb _ _ (c .if2 .taken))
+returns-2 c =
+    let at-if1 = c .before .before .before in
+    rw (← at-if1 .before .two .ensures, ← c .before .wide .ensures, eq-eqb _ _ (at-if1 .if1 .left), ne-eqb _ _ (c .if2 .taken))
 
 add-four : tie.Need-add-four
 add-four c = search needs
@@ -36,7 +38,9 @@ four-requires c κs = search needs
 
 returns-3 : tie.Need-returns-3
 unfolding sameKey keyAt
-returns-3 c = rw (← c .before .before .before .before .before .two .ensures, ← c .before .before .wide .ensures, ← c .four .ensures, eq-eqb _ _ (c .before .before .before .before .if1 .left), eq-eqb _ _ (c .before .if2 .left))
+returns-3 c =
+    let at-wide = c .before .before in
+    rw (← at-wide .before .before .before .two .ensures, ← at-wide .wide .ensures, ← c .four .ensures, eq-eqb _ _ (at-wide .before .before .if1 .left), eq-eqb _ _ (c .before .if2 .left))
 
 pub has-key-spec : {M : Type 1} → statement M
 has-key-spec =

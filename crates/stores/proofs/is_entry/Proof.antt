@@ -30,12 +30,17 @@ cast-if1 c = search needs
 
 returns : tie.Need-returns
 returns c s a n =
-    let args = c .before .before .before .before .before .before .args in
+    let at-shared-slice-known3 = c .before .before .before in
+    let entry = at-shared-slice-known3 .before .before .before in
+    let args = entry .args in
     sym (node-fails s _ _ _ a n (args .store .now) (args .i) (omega arith))
 
 returns-2 : tie.Need-returns-2
 returns-2 c s a n =
-    let args = c .before .before .before .before .before .before .before .args in
+    let at-wide = c .before .before .before in
+    let at-shared-slice-known = at-wide .before .before .before in
+    let entry = at-shared-slice-known .before in
+    let args = entry .args in
     sym (attribute-fails s _ _ _ a n (args .store .now) (args .i) (omega arith))
 
 add-if3 : tie.Need-add-if3
@@ -46,7 +51,10 @@ shared-slice-read-if3 c = search needs
 
 returns-3 : tie.Need-returns-3
 returns-3 c s a n =
-    let args = c .before .before .before .before .before .before .before .before .before .args in
+    let at-if1 = c .before .before .before in
+    let at-shared-slice-known3 = at-if1 .before .before .before in
+    let entry = at-shared-slice-known3 .before .before .before in
+    let args = entry .args in
     sym (zero-fails s _ _ _ a n (args .store .now) (args .i) (omega arith))
 
 mul-is-word : tie.Need-mul-is-word
@@ -69,9 +77,15 @@ is-word-requires c κs = search needs
 
 returns-4 : tie.Need-returns-4
 returns-4 c s a n =
-    let args = c .before .before .before .before .before .before .before .before .before .before .before .before .before .args in
+    let at-four = c .before .before in
+    let at-shared-slice-known4 = at-four .before .before .before in
+    let at-two = at-shared-slice-known4 .before .before .before in
+    let at-wide = at-two .before in
+    let at-shared-slice-known = at-wide .before .before .before in
+    let entry = at-shared-slice-known .before in
+    let args = entry .args in
     let word-fails = sym (c .before .is-word .ensures) ∙ not-true (c .before .is-word .result) (c .if4 .taken) in
-    sym (parameter-fails s _ _ _ a n (args .store .now) (args .i) (omega arith) (rw (← c .before .before .before .before .before .before .before .before .before .wide .ensures, ← c .before .before .four .ensures) word-fails))
+    sym (parameter-fails s _ _ _ a n (args .store .now) (args .i) (omega arith) (rw (← at-wide .wide .ensures, ← at-four .four .ensures) word-fails))
 
 mul-is-word-2 : tie.Need-mul-is-word-2
 mul-is-word-2 c = search needs
@@ -93,12 +107,19 @@ is-word-requires-2 c κs = search needs
 
 returns-5 : tie.Need-returns-5
 returns-5 c s a n =
-    let args = c .before .before .before .before .before .before .before .before .before .before .before .before .before .before .before .before .args in
-    let attribute = c .before .before .before .before .before .before .before .before .before .before .before .before .wide .ensures in
-    let word-passes = sym (c .before .before .before .before .is-word .ensures) ∙ not-false (c .before .before .before .before .is-word .result) (c .before .before .before .if4 .left) in
+    let at-if4 = c .before .before .before in
+    let at-four = at-if4 .before .before in
+    let at-shared-slice-known4 = at-four .before .before .before in
+    let at-two = at-shared-slice-known4 .before .before .before in
+    let at-wide = at-two .before in
+    let at-shared-slice-known = at-wide .before .before .before in
+    let entry = at-shared-slice-known .before in
+    let args = entry .args in
+    let attribute = at-wide .wide .ensures in
+    let word-passes = sym (at-if4 .before .is-word .ensures) ∙ not-false (at-if4 .before .is-word .result) (at-if4 .if4 .left) in
     c .is-word2 .ensures
     ∙ rw (attribute, c .before .four2 .ensures)
-    (sym (by-value s _ _ _ a n (args .store .now) (args .i) (omega arith) (omega arith) (omega arith) (rw (← attribute, ← c .before .before .before .before .before .four .ensures) word-passes)))
+    (sym (by-value s _ _ _ a n (args .store .now) (args .i) (omega arith) (omega arith) (omega arith) (rw (← attribute, ← at-four .four .ensures) word-passes)))
 
 pub is-entry-spec : {M : Type 1} → statement M
 is-entry-spec =

@@ -64,7 +64,11 @@ same-length : tie.Need-same-length
 same-length c = search needs
 
 returns : tie.Need-returns
-returns c = linked-more _ _ _ (c .before .before .before .before .before .before .before .before .pre .2) (c .before .before .before .before .before .before .before .before .pre .0) _ (c .before .bucket .ensures .0 ∙ ap bucketOf (key-read _ _ _ _ _ (c .before .before .before .before .before .two .ensures) (c .before .before .before .wide .ensures) (c .before .before .four .ensures))) (c .before .before .before .before .before .before .before .before .pre .1)
+returns c =
+    let at-wide = c .before .before .before in
+    let at-two = at-wide .before .before in
+    let entry = at-two .before .before .before in
+    linked-more _ _ _ (entry .pre .2) (entry .pre .0) _ (c .before .bucket .ensures .0 ∙ ap bucketOf (key-read _ _ _ _ _ (at-two .two .ensures) (at-wide .wide .ensures) (c .before .before .four .ensures))) (entry .pre .1)
 
 pub link-spec : {M : Type 1} → statement M
 link-spec =

@@ -13,8 +13,11 @@ is-entry-requires c κs = search needs
 
 returns : tie.Need-returns
 returns c s a n q =
-    let args = c .before .before .before .before .before .args in
-    sym (entry-fails s (args .store .now) (args .i) _ (sym (c .before .is-entry .ensures s a n) ∙ not-true (c .before .is-entry .result) (c .if1 .taken)))
+    let at-is-entry = c .before in
+    let at-shared-slice-known = at-is-entry .before .before .before in
+    let entry = at-shared-slice-known .before in
+    let args = entry .args in
+    sym (entry-fails s (args .store .now) (args .i) _ (sym (at-is-entry .is-entry .ensures s a n) ∙ not-true (at-is-entry .is-entry .result) (c .if1 .taken)))
 
 mul-at : tie.Need-mul-at
 mul-at c = search needs
@@ -48,16 +51,26 @@ enum-told-2 c = search needs
 
 returns-2 : tie.Need-returns-2
 returns-2 c s a n q =
-    let args = c .before .before .before .before .before .before .before .before .before .before .before .before .args in
-    let key = key-read (args .store .now) (args .i) _ _ _ (c .before .before .before .before .before .before .two .ensures) (c .before .before .before .before .wide .ensures) (c .before .before .before .four .ensures) in
-    let passed = sym (c .before .before .before .before .before .before .before .before .is-entry .ensures s a n) ∙ not-false (c .before .before .before .before .before .before .before .before .is-entry .result) (c .before .before .before .before .before .before .before .if1 .left) in
+    let at-four = c .before .before .before in
+    let at-two = at-four .before .before .before in
+    let at-is-entry = at-two .before .before in
+    let at-shared-slice-known = at-is-entry .before .before .before in
+    let entry = at-shared-slice-known .before in
+    let args = entry .args in
+    let key = key-read (args .store .now) (args .i) _ _ _ (at-two .two .ensures) (at-four .before .wide .ensures) (at-four .four .ensures) in
+    let passed = sym (at-is-entry .is-entry .ensures s a n) ∙ not-false (at-is-entry .is-entry .result) (at-two .before .if1 .left) in
     sym (entry-new s (args .store .now) (args .i) q passed (nothing-found _ _ (c .before .before .find .ensures) key (c .enum-told2 .given .1)))
 
 returns-3 : tie.Need-returns-3
 returns-3 c s a n q =
-    let args = c .before .before .before .before .before .before .before .before .before .before .before .before .args in
-    let key = key-read (args .store .now) (args .i) _ _ _ (c .before .before .before .before .before .before .two .ensures) (c .before .before .before .before .wide .ensures) (c .before .before .before .four .ensures) in
-    let passed = sym (c .before .before .before .before .before .before .before .before .is-entry .ensures s a n) ∙ not-false (c .before .before .before .before .before .before .before .before .is-entry .result) (c .before .before .before .before .before .before .before .if1 .left) in
+    let at-four = c .before .before .before in
+    let at-two = at-four .before .before .before in
+    let at-is-entry = at-two .before .before in
+    let at-shared-slice-known = at-is-entry .before .before .before in
+    let entry = at-shared-slice-known .before in
+    let args = entry .args in
+    let key = key-read (args .store .now) (args .i) _ _ _ (at-two .two .ensures) (at-four .before .wide .ensures) (at-four .four .ensures) in
+    let passed = sym (at-is-entry .is-entry .ensures s a n) ∙ not-false (at-is-entry .is-entry .result) (at-two .before .if1 .left) in
     sym (entry-known s (args .store .now) (args .i) q passed _ (found-at _ _ (c .before .before .find .ensures) key _ (c .enum-told .given .1)))
 
 pub passes-spec : {M : Type 1} → statement M

@@ -41,13 +41,24 @@ put-four-requires-2 : tie.Need-put-four-requires-2
 put-four-requires-2 c κs = let h = simp length-set at (c .before .before .before .put-four .kept .0) in omega arith
 
 same-length : tie.Need-same-length
-same-length c = c .before .before .put-four2 .kept .0 ∙ c .before .before .before .before .before .before .put-four .kept .0 ∙ simp length-set (c .before .before .before .before .before .before .before .before .before .before .put-two .kept .0)
+same-length c =
+    let at-put-four2 = c .before .before in
+    let at-store2 = at-put-four2 .before .before .before in
+    let at-put-four = at-store2 .before in
+    let at-store = at-put-four .before .before .before in
+    at-put-four2 .put-four2 .kept .0 ∙ at-put-four .put-four .kept .0 ∙ simp length-set (at-store .before .put-two .kept .0)
 
 returns : tie.Need-returns
 returns c =
-    let start = c .before .before .before .before .before .before .before .before .before .before .before .before .before in
-    c .before .before .put-four2 .ensures
-    ∙ rw (c .before .before .before .before .before .before .put-four .ensures, c .before .before .before .before .before .before .before .before .before .before .put-two .ensures)
+    let at-put-four2 = c .before .before in
+    let at-store2 = at-put-four2 .before .before .before in
+    let at-put-four = at-store2 .before in
+    let at-store = at-put-four .before .before .before in
+    let at-put-two = at-store .before in
+    let entry = at-put-two .before .before .before in
+    let start = entry in
+    at-put-four2 .put-four2 .ensures
+    ∙ rw (at-put-four .put-four .ensures, at-put-two .put-two .ensures)
     (written (start .args .store .now) (start .args .kept) (start .pre .0) _ _)
 
 pub write-spec : {M : Type 1} → statement M

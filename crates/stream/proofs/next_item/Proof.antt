@@ -23,7 +23,11 @@ part-requires : tie.Need-part-requires
 part-requires c κs = search needs
 
 returns-3 : tie.Need-returns-3
-returns-3 c = let bytes = c .before .before .before .before .args .bytes .now in (rw (front-one bytes (c .before .before .if1 .left) (omega arith)) (c .part .ensures), λ e. omega arith)
+returns-3 c =
+    let at-if1 = c .before .before in
+    let entry = at-if1 .before .before in
+    let bytes = entry .args .bytes .now in
+    (rw (front-one bytes (at-if1 .if1 .left) (omega arith)) (c .part .ensures), λ e. omega arith)
 
 two-requires : tie.Need-two-requires
 two-requires c κs = search needs
@@ -36,16 +40,24 @@ sub-if4 c = search needs
 
 returns-4 : tie.Need-returns-4
 unfolding nextOf
-returns-4 c = let bytes = c .before .before .before .before .before .args .bytes .now in
-    (next-whole bytes _ _ (omega arith) (c .before .two .ensures) (omega arith), λ e. let z : _≡_ {A = ℕ} 0 1 = cc in absurd (omega arith))
+returns-4 c =
+    let at-two = c .before in
+    let at-shared-slice-known = at-two .before .before .before in
+    let entry = at-shared-slice-known .before in
+    let bytes = entry .args .bytes .now in
+    (next-whole bytes _ _ (omega arith) (at-two .two .ensures) (omega arith), λ e. let z : _≡_ {A = ℕ} 0 1 = cc in absurd (omega arith))
 
 part-requires-2 : tie.Need-part-requires-2
 part-requires-2 c κs = search needs
 
 returns-5 : tie.Need-returns-5
-returns-5 c = let bytes = c .before .before .before .before .before .before .args .bytes .now in
-    let short : length bytes - 2 < ofBytes (take 2 bytes) = omega (arith, c .before .before .two .ensures) in
-    (rw (front-part bytes (omega arith) short) (c .part2 .ensures), λ e. omega (arith, length-bound bytes (λ i. c .before .before .before .before .before .shared-slice-known .given i .fits)))
+returns-5 c =
+    let at-two = c .before .before in
+    let at-shared-slice-known = at-two .before .before .before in
+    let entry = at-shared-slice-known .before in
+    let bytes = entry .args .bytes .now in
+    let short : length bytes - 2 < ofBytes (take 2 bytes) = omega (arith, at-two .two .ensures) in
+    (rw (front-part bytes (omega arith) short) (c .part2 .ensures), λ e. omega (arith, length-bound bytes (λ i. at-shared-slice-known .shared-slice-known .given i .fits)))
 
 pub next-item-spec : {M : Type 1} → statement M
 next-item-spec =

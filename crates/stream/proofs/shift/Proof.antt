@@ -38,8 +38,11 @@ loop-less : tie.Need-loop-less Inv-loop μ-loop
 loop-less c = omega arith
 
 loop-again : tie.Need-loop-again Inv-loop μ-loop
-loop-again c = let s = c .before .before .before .before in
-    let l = c .before .before .loop in
+loop-again c =
+    let at-loop = c .before .before in
+    let entry = at-loop .before .before in
+    let s = entry in
+    let l = at-loop .loop in
     let inv = l .inv in
     let within : s .args .from + l .i < length (s .args .buffer .now) = omega arith in
     (omega arith, rw length-set (inv .1), moved-more _ _ _ _ (inv .1) within (inv .2) (inv .3), kept-more _ _ _ _ (inv .1) within (inv .2) (inv .3))

@@ -75,13 +75,14 @@ returns-3 c =
 returns-4 : tie.Need-returns-4
 unfolding applyHolding
 returns-4 c =
+    let at-known-told4 = c .before .before .before in
     rw (
-      c .before .before .before .before .h4 .given .1,
+      at-known-told4 .before .h4 .given .1,
       read-back w32 (c .held .result) (c .held .ok),
       c .held .ensures,
       read-back w64 (c .before .sum .result) (c .before .sum .ok),
       c .before .sum .ensures,
-      read-back w32 (c .before .before .before .before .h4 .given .0 .0) (c .before .before .before .known-told4 .given .0 .1),
+      read-back w32 (at-known-told4 .before .h4 .given .0 .0) (at-known-told4 .known-told4 .given .0 .1),
       read-back w32 (c .before .before .number3 .result) (c .before .before .number3 .ok),
       c .before .before .number3 .ensures,
     )
@@ -89,13 +90,14 @@ returns-4 c =
 returns-5 : tie.Need-returns-5
 unfolding applyHolding
 returns-5 c =
+    let at-known-told5 = c .before .before .before in
     rw (
-      c .before .before .before .before .h5 .given .1,
+      at-known-told5 .before .h5 .given .1,
       read-back w32 (c .held2 .result) (c .held2 .ok),
       c .held2 .ensures,
       read-back w64 (c .before .difference .result) (c .before .difference .ok),
       c .before .difference .ensures,
-      read-back w32 (c .before .before .before .before .h5 .given .0 .0) (c .before .before .before .known-told5 .given .0 .1),
+      read-back w32 (at-known-told5 .before .h5 .given .0 .0) (at-known-told5 .known-told5 .given .0 .1),
       read-back w32 (c .before .before .number4 .result) (c .before .before .number4 .ok),
       c .before .before .number4 .ensures,
     )

@@ -62,14 +62,19 @@ add-result-3 c = search needs
 
 returns : tie.Need-returns
 unfolding ofBytes
-returns c = let s = c .before .before .before .before .before .before .before .before .before .args .s .now in
-    let at = c .before .before .before .before .before .before .before .before .before .args .at in
+returns c =
+    let at-wide3 = c .before .before in
+    let at-wide2 = at-wide3 .before .before in
+    let at-wide = at-wide2 .before .before in
+    let entry = at-wide .before .before .before in
+    let s = entry .args .s .now in
+    let at = entry .args .at in
     let second : at + 2 ≡ suc (suc at) = omega arith in
     let third : at + 3 ≡ suc (suc (suc at)) = omega arith in
     rw (
-      c .before .before .before .before .before .before .wide .ensures .0,
-      c .before .before .before .before .wide2 .ensures .0,
-      c .before .before .wide3 .ensures .0,
+      at-wide .wide .ensures .0,
+      at-wide2 .wide2 .ensures .0,
+      at-wide3 .wide3 .ensures .0,
       c .wide4 .ensures .0,
       add-one,
       second,

@@ -47,10 +47,13 @@ same-length c = search needs
 
 returns : tie.Need-returns
 unfolding toBytes
-returns c = let at = c .before .before .before .before .before .args .at in
+returns c =
+    let at-low = c .before .before .before in
+    let entry = at-low .before .before in
+    let at = entry .args .at in
     let second : at + 2 ≡ suc (suc at) = omega arith in
     let third : at + 3 ≡ suc (suc (suc at)) = omega arith in
-    rw (c .before .before .before .low .ensures, c .before .before .low2 .ensures, c .before .low3 .ensures, c .low4 .ensures, add-one, second, third)
+    rw (at-low .low .ensures, c .before .before .low2 .ensures, c .before .low3 .ensures, c .low4 .ensures, add-one, second, third)
 
 pub put-four-spec : {M : Type 1} → statement M
 put-four-spec =

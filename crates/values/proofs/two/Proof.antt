@@ -31,9 +31,12 @@ add-result c = search needs
 
 returns : tie.Need-returns
 unfolding ofBytes
-returns c = let s = c .before .before .before .before .before .args .s .now in
-    let at = c .before .before .before .before .before .args .at in
-    rw (c .before .before .wide .ensures .0, c .wide2 .ensures .0, add-one, bytes-at 1 s at (omega arith), bytes-at 0 s (suc at) (omega arith)) (omega arith)
+returns c =
+    let at-wide = c .before .before in
+    let entry = at-wide .before .before .before in
+    let s = entry .args .s .now in
+    let at = entry .args .at in
+    rw (at-wide .wide .ensures .0, c .wide2 .ensures .0, add-one, bytes-at 1 s at (omega arith), bytes-at 0 s (suc at) (omega arith)) (omega arith)
 
 pub two-spec : {M : Type 1} → statement M
 two-spec =
