@@ -8,8 +8,8 @@ use native.Mathlib.Omega.{arith}
 use lib.ListN.{length, take, drop, getD, set, length-drop}
 use lib.Seq.{length-take-le}
 use borrow.Author.Tests.{le-leb, lt-leb, ne-eqb}
-use Rattle.specs.specs.Values.{baseOf, ofBytes, ofWord, toWord}
-use Rattle.specs.specs.declared.Value.{Value}
+use Rattle.saiga.specs.Values.{baseOf, ofBytes, ofWord, toWord}
+use Rattle.saiga.specs.declared.Value.{Value}
 use Rattle.sheets.specs.declared.FoundFigure.{FoundFigure}
 use Rattle.sheets.specs.declared.FoundFigure.the-variants.{Of, NoFigure}
 use Rattle.sheets.specs.Scan.{figurePlace, figureAt, indexed, pieceAt, figureOf, ruleNumber, IndexedRule}

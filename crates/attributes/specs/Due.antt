@@ -5,8 +5,8 @@ use mathlib.Core.Option.{some}
 use mathlib.Core.Path.{_≡_}
 use Prim.Native.Nat.{ℕ, _+_, _*_, _^_, _≤_, _<_}
 use lib.ListN.{length, getD}
-use Rattle.specs.specs.Values.{baseOf, isWord, toWord}
-use Rattle.specs.specs.Sheet.{attributeCount}
+use Rattle.saiga.specs.Values.{baseOf, isWord, toWord}
+use Rattle.saiga.specs.Sheet.{attributeCount}
 use Rattle.sheets.specs.Scan.{figurePlace, IndexedPair, IndexedRule, ruleNumber}
 use Rattle.stores.specs.Keys.{Linked, findKey, valueWord}
 use Rattle.engine.specs.declared.Registers.{Registers}

@@ -1,8 +1,8 @@
 // AttrApp and CacheWrite (document 01, "The steps"): an attribute's value is taken from the store, from its figure, or from its rule inside a
 // form; a form's value is kept.
 use engine::Registers;
+use saiga::Value;
 use sheets::FoundFigure;
-use specs::Value;
 use stores::Found;
 ghost use mathlib.Core.List.{List};
 ghost use mathlib.Core.Option.{none};
@@ -10,10 +10,10 @@ ghost use mathlib.Core.Path.{_≡_};
 ghost use Prim.Native.Nat.{ℕ, _/_, _%_, _≤_, _<_};
 ghost use lib.Dec.{leb};
 ghost use lib.ListN.{length, getD};
-ghost use Rattle.specs.specs.Values.{toWord, nodeOf};
+ghost use Rattle.saiga.specs.Values.{toWord, nodeOf};
 ghost use Rattle.sheets.specs.Scan.{figurePlace, figureAt, indexed};
 ghost use Rattle.stores.specs.Keys.{Linked, findKey};
-ghost use Rattle.frames.specs.Words.{valueIn};
+ghost use Rattle.values.specs.Packed.{valueIn};
 ghost use Rattle.engine.specs.Steps.{goes, cacheWrite, closeForm, openRule, openFigure, takeKept, attributeDue};
 ghost use Rattle.engine.specs.Ready.{memoryOf};
 ghost use Rattle.attributes.specs.Due.{steppedOf, keptAfter, Still, WriteReady, CloseReady, RuleReady, AttributeReady};
@@ -253,7 +253,7 @@ pub fn attribute_due(
     ensures { λ r. ⌜ Still r (memoryOf (now (store .entry)) (now (frames .entry)) (now (forms .entry)))
         (memoryOf (now (store .exit)) (now (frames .exit)) (now (forms .exit))) ⌝ }
 {
-    let n = values::node_of(frames::unpack(w / 256 % 68719476736)) as usize;
+    let n = values::node_of(values::packed::unpack(w / 256 % 68719476736)) as usize;
     let a = (w / 8 % 32) as usize;
     if n == 65535 {
         return Step::Stops(14);

@@ -4,10 +4,10 @@ use mathlib.Core.Path.{_≡_, refl, sym, ap, _∙_}
 use Prim.Native.Nat.{ℕ, _/_}
 use native.Mathlib.Omega.{arith}
 use lib.ListN.{length}
-use Rattle.specs.specs.declared.Value.the-variants.{Unit as unit}
-use Rattle.specs.specs.Caching.{Ending, Ended}
-use Rattle.specs.specs.Ask.{endedAnswer, runQuestion, ask}
-use Rattle.specs.proofs.Calls.{Passed, passed, ask-runs}
+use Rattle.saiga.specs.declared.Value.the-variants.{Unit as unit}
+use Rattle.saiga.specs.Caching.{Ending, Ended}
+use Rattle.saiga.specs.Ask.{endedAnswer, runQuestion, ask}
+use Rattle.saiga.proofs.Calls.{Passed, passed, ask-runs}
 use Rattle.stores.specs.Keys.{Linked}
 use Rattle.engine.specs.declared.Registers.{Registers}
 use Rattle.engine.specs.Ready.{memoryOf}
@@ -16,9 +16,9 @@ use Rattle.engine.proofs.Loop.{question-short, invariant-start, final-outcome}
 use Rattle.runs.specs.declared.RunEnd.{RunEnd}
 use Rattle.runs.specs.declared.RunEnd.the-variants as End
 use Rattle.runs.specs.Moves.{Running, keptBy, RunsTo}
-use Rattle.checks.specs.declared.Answer.{Answer}
-use Rattle.checks.specs.declared.Answer.the-variants.{Value, Refusal}
-use Rattle.checks.specs.Answers.{answerOf}
+use Rattle.calls.specs.declared.Answer.{Answer}
+use Rattle.calls.specs.declared.Answer.the-variants.{Value, Refusal}
+use Rattle.calls.specs.Answers.{answerOf}
 use Rattle.calls.specs.Askable.{Askable}
 
 module _ {sheet index : List ℕ} {attributes : ℕ} {question store links frames forms : List ℕ} {kept budget : ℕ}

@@ -4,24 +4,24 @@ use mathlib.Core.Path.{_≡_, refl, sym, ap, _∙_}
 use Prim.Native.Nat.{ℕ}
 use native.Mathlib.Omega.{arith}
 use lib.ListN.{length}
-use Rattle.specs.specs.Expressions.{Expr}
-use Rattle.specs.specs.Sheet.{Sheet, Checked, refused, accepted, checkSheet}
-use Rattle.specs.specs.Caching.{Entry}
-use Rattle.specs.specs.Store.{checkStore}
-use Rattle.specs.specs.Ask.{refusal, _then-check_, AcceptedCall, checkCall, ask}
-use Rattle.specs.specs.Calls.{call, leaves}
-use Rattle.specs.proofs.Calls.{ask-refuses, passed, left-store-passes}
+use Rattle.saiga.specs.Expressions.{Expr}
+use Rattle.saiga.specs.Sheet.{Sheet, Checked, refused, accepted, checkSheet}
+use Rattle.saiga.specs.Caching.{Entry}
+use Rattle.saiga.specs.Store.{checkStore}
+use Rattle.saiga.specs.Ask.{refusal, _then-check_, AcceptedCall, checkCall, ask}
+use Rattle.saiga.specs.Calls.{call, leaves}
+use Rattle.saiga.proofs.Calls.{ask-refuses, passed, left-store-passes}
 use Rattle.expressions.specs.declared.QuestionCheck.{QuestionCheck}
 use Rattle.expressions.specs.declared.QuestionCheck.the-variants as for-question
 use Rattle.expressions.specs.Forms.{questionOf}
 use Rattle.stores.specs.Keys.{Linked}
-use Rattle.checks.specs.declared.Answer.{Answer}
-use Rattle.checks.specs.declared.Verdict.{Verdict}
-use Rattle.checks.specs.declared.Verdict.the-variants.{Refused, Accepted}
-use Rattle.checks.specs.Answers.{answerOf}
-use Rattle.checks.specs.Prepared.{PreparedSheet, PreparedStore}
-use Rattle.checks.specs.Verdict.{SheetOf, fromBudget, Indexes, CallChecked}
-use Rattle.checks.proofs.Laws.{sheet-of, same-sheet, verdict-refused, verdict-accepted, asked-refused, asked-accepted, from-store, from-sheet}
+use Rattle.calls.specs.declared.Answer.{Answer}
+use Rattle.calls.specs.declared.checks.Verdict.{Verdict}
+use Rattle.calls.specs.declared.checks.Verdict.the-variants.{Refused, Accepted}
+use Rattle.calls.specs.Answers.{answerOf}
+use Rattle.calls.specs.Prepared.{PreparedSheet, PreparedStore}
+use Rattle.calls.specs.Verdict.{SheetOf, fromBudget, Indexes, CallChecked}
+use Rattle.calls.proofs.CheckLaws.{sheet-of, same-sheet, verdict-refused, verdict-accepted, asked-refused, asked-accepted, from-store, from-sheet}
 use Rattle.calls.specs.Askable.{Askable, RunScratch}
 
 -- ---- A refusal

@@ -4,8 +4,8 @@ use mathlib.Core.List.{List}
 use mathlib.Core.Path.{_≡_}
 use Prim.Native.Nat.{ℕ}
 use lib.ListN.{length}
-use Rattle.specs.specs.Sheet.{attributeCount, Checked, refused, accepted}
-use Rattle.specs.specs.Ask.{AcceptedCall, checkCall}
+use Rattle.saiga.specs.Sheet.{attributeCount, Checked, refused, accepted}
+use Rattle.saiga.specs.Ask.{AcceptedCall, checkCall}
 use Rattle.sheets.specs.Scan.{Indexed}
 use Rattle.stores.specs.Keys.{Linked}
 

@@ -1,1 +1,4 @@
+pub mod Answers
+pub mod Prepared
+pub mod Verdict
 pub mod Askable

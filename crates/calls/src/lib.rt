@@ -1,20 +1,35 @@
 // A question call (document 01, "Contracts"): the sheet, the store with its kept number, the question and the budget in; the answer out, and the
 // store with what the run kept. `ask` checks all of them; `ask_checked` is for a caller who has checked the sheet and indexed the store.
-use checks::Answer;
+pub mod checks;
+
 use checks::Verdict;
 use engine::Registers;
 use expressions::QuestionCheck;
 use runs::RunEnd;
-use specs::Value;
+use saiga::Value;
+ghost use mathlib.Core.List.{[]};
 ghost use mathlib.Core.Path.{_≡_};
-ghost use Rattle.specs.specs.declared.Value.the-variants.{Unit as unit};
-ghost use Rattle.specs.specs.Ask.{checkCall, ask as called};
+ghost use Rattle.saiga.specs.declared.Value.the-variants.{Unit as unit};
+ghost use Rattle.saiga.specs.Ask.{refusal, checkCall, ask as called};
 ghost use Rattle.stores.specs.Keys.{Linked};
-ghost use Rattle.checks.specs.Answers.{answerOf};
+ghost use Rattle.calls.specs.Answers.{answerOf};
 ghost use Rattle.engine.specs.Loop.{started};
-ghost use Rattle.checks.specs.Prepared.{PreparedSheet, PreparedStore};
-ghost use Rattle.checks.specs.Verdict.{Indexes};
+ghost use Rattle.calls.specs.Prepared.{PreparedSheet, PreparedStore};
+ghost use Rattle.calls.specs.Verdict.{Indexes};
 ghost use Rattle.calls.specs.Askable.{Askable, RunScratch};
+
+// What a call brings: the value with its steps and the number kept, or a refusal with its number, place, steps and the number kept.
+pub enum Answer {
+    Value(Value, usize, usize),
+    Refusal(u32, usize, usize, usize),
+}
+
+// The answer of a call that is refused before its run: no steps, and what was kept stays.
+pub fn refuse(number: u32, place: usize, kept: usize) -> Answer
+    ensures { λ r. ⌜ answerOf r ≡ refusal [] kept number place .answer ⌝ }
+{
+    Answer::Refusal(number, place, 0, kept)
+}
 
 // The registers before the first byte of a question.
 fn begin(question: &[u8], kept: usize) -> Registers
@@ -100,7 +115,7 @@ pub fn ask_checked<'a>(
     let words: &mut [u64] = frames;
     let marks: &mut [u32] = forms;
     match checks::check_question(sheet, attributes, nodes, question, budget) {
-        QuestionCheck::Refused(number) => checks::refuse(number, 0, kept),
+        QuestionCheck::Refused(number) => refuse(number, 0, kept),
         QuestionCheck::Accepted(_) => put(
             sheet,
             index,
@@ -137,7 +152,7 @@ pub fn ask<'a>(
     let words: &mut [u64] = frames;
     let marks: &mut [u32] = forms;
     match checks::check(sheet, question, store, kept, budget, index, links) {
-        Verdict::Refused(number, place) => checks::refuse(number, place, kept),
+        Verdict::Refused(number, place) => refuse(number, place, kept),
         Verdict::Accepted(attributes, _) => put(
             sheet,
             index,

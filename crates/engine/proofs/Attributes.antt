@@ -13,33 +13,33 @@ use lib.Dec.{leb, eqb}
 use lib.ListN.{length, take, drop, getD, set, length-set}
 use lib.Seq.{getD-set-same, getD-set-other}
 use borrow.Author.Tests.{leb-true, leb-false, lt-ltb, le-ltb, lt-leb, eq-eqb, ne-eqb}
-use Rattle.specs.specs.Values.{boolT, nodeT, Ty, base, _⇒_, null, nodeOf, baseOf, ofBytes, ofWord, toWord}
-use Rattle.specs.specs.declared.Value.{Value}
-use Rattle.specs.specs.Types.{Attribute, attributeAt}
-use Rattle.specs.specs.Sheet.{Sheet, nodeCount, attributeCount, Definition, figure, piece-of, ruled, figured, definition, isDefined, accepted}
-use Rattle.specs.specs.Terms.{Occurrence, val, cond, app, attr, form}
-use Rattle.specs.specs.Caching.{Entry, Running, kept, write, AttrApp, null-node, spent, depth}
-use Rattle.specs.specs.Store.{checkStore}
-use Rattle.specs.specs.Ask.{reasonNumber}
-use Rattle.specs.specs.Sound.{IsA, ValueIn, OccurrenceIn, RunningIn, val∈, cond∈, app∈, attr∈, form∈}
-use Rattle.specs.proofs.Words.{word-in}
-use Rattle.specs.proofs.Accepted.{pair-defined}
-use Rattle.specs.proofs.Preservation.{declared, either}
+use Rattle.saiga.specs.Values.{boolT, nodeT, Ty, base, _⇒_, null, nodeOf, baseOf, ofBytes, ofWord, toWord}
+use Rattle.saiga.specs.declared.Value.{Value}
+use Rattle.saiga.specs.Types.{Attribute, attributeAt}
+use Rattle.saiga.specs.Sheet.{Sheet, nodeCount, attributeCount, Definition, figure, piece-of, ruled, figured, definition, isDefined, accepted}
+use Rattle.saiga.specs.Terms.{Occurrence, val, cond, app, attr, form}
+use Rattle.saiga.specs.Caching.{Entry, Running, kept, write, AttrApp, null-node, spent, depth}
+use Rattle.saiga.specs.Store.{checkStore}
+use Rattle.saiga.specs.Ask.{reasonNumber}
+use Rattle.saiga.specs.Sound.{IsA, ValueIn, OccurrenceIn, RunningIn, val∈, cond∈, app∈, attr∈, form∈}
+use Rattle.saiga.proofs.FourBytes.{word-in}
+use Rattle.saiga.proofs.Accepted.{pair-defined}
+use Rattle.saiga.proofs.Preservation.{declared, either}
 use Rattle.sheets.specs.Scan.{figurePlace, figureAt, pieceAt, indexed}
 use Rattle.sheets.proofs.Indexed.{attributeIn, attribute-by-index, kind-by-index, definition-by-index}
 use Rattle.stores.specs.Keys.{findKey}
-use Rattle.pieces.specs.Pieces.{pieceIn, restOf}
-use Rattle.frames.specs.Words.{valueIn}
-use Rattle.machine.specs.Machine.{Frame, on-if, on-left, on-skip, on-right, on-node, on-parameter, on-form, returning, Machine, openForms, plug, termOf, stateOf, moves, takes, counted, defined, applied, give, moveOf, move}
-use Rattle.machine.specs.Machine as Machine
+use Rattle.engine.specs.RunningPiece.{pieceIn, restOf}
+use Rattle.values.specs.Packed.{valueIn}
+use Rattle.engine.specs.Machine.{Frame, on-if, on-left, on-skip, on-right, on-node, on-parameter, on-form, returning, Machine, openForms, plug, termOf, stateOf, moves, takes, counted, defined, applied, give, moveOf, move}
+use Rattle.engine.specs.Machine as Machine
 use Rattle.engine.specs.Decode.{sheetOf, entriesOf, plainFrame, formOccurrence, formRest, framesIn, modeOf, machineOf, Placed}
 use Rattle.engine.specs.Steps.{Memory, Stepped, goes, answered, cacheWrite, closeForm, ruleIndex, openRule, openFigure, takeKept, attributeDue}
 use Rattle.engine.specs.declared.Registers.{Registers}
-use Rattle.machine.proofs.Bounds.{frames-fit}
-use Rattle.machine.specs.Machine.{Next, by-move, by-step}
+use Rattle.engine.proofs.Bounds.{frames-fit}
+use Rattle.engine.specs.Machine.{Next, by-move, by-step}
 use Rattle.engine.specs.Represents.{machineIn, Represents, Matches}
-use Rattle.engine.proofs.Words.{frames-count}
-use Rattle.engine.proofs.Writing.{keyOf, ByKey, Written, cache-write}
+use Rattle.engine.proofs.Decoding.{frames-count}
+use Rattle.engine.proofs.StoreWritten.{keyOf, ByKey, Written, cache-write}
 
 -- ---- Types
 

@@ -2,12 +2,12 @@
 use mathlib.Core.List.{List}
 use mathlib.Core.Path.{_≡_, _∙_}
 use Prim.Native.Nat.{ℕ}
-use Rattle.specs.specs.Sheet.{Sheet, accepted}
-use Rattle.specs.specs.Caching.{Entry}
-use Rattle.specs.specs.Store.{checkStore}
+use Rattle.saiga.specs.Sheet.{Sheet, accepted}
+use Rattle.saiga.specs.Caching.{Entry}
+use Rattle.saiga.specs.Store.{checkStore}
 use Rattle.stores.specs.Keys.{keyOf, keptAt}
-use Rattle.stores.proofs.Entries.{kept-by-key}
-use Rattle.engine.proofs.Writing.{ByKey}
+use Rattle.stores.proofs.ByKey.{kept-by-key}
+use Rattle.engine.proofs.StoreWritten.{ByKey}
 
 pub by-key : (s : Sheet) (store : List ℕ) (k : ℕ) (entries : List Entry) → checkStore s store k ≡ accepted entries → ByKey s store k entries
 unfolding keyOf keptAt

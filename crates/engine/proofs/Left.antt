@@ -11,18 +11,18 @@ use lib.Dec.{leb, eqb}
 use lib.ListN.{length, take, drop, getD, length-take, length-append, length-drop}
 use lib.Seq.{take-at, drop-at, length-take-le}
 use borrow.Author.Tests.{leb-false}
-use Rattle.specs.specs.Values.{null, ofBytes, toBytes, isWord, truth}
-use Rattle.specs.specs.declared.Value.{Value}
-use Rattle.specs.specs.Expressions.{Head, base-literal, function-literal, if-head, application-head, attribute-head, this-head, parameter-head, no-head, headOf}
-use Rattle.specs.specs.Types.{attributeAt}
-use Rattle.specs.specs.Sheet.{Sheet, nodeCount, accepted}
-use Rattle.specs.specs.Caching.{Entry}
-use Rattle.specs.specs.Store.{entryBytes, entryOf, isEntry, readEntries, checkStore, leftStore}
-use Rattle.specs.proofs.Preservation.{either}
-use Rattle.specs.proofs.Words.{word-trip}
-use Rattle.specs.proofs.Entries.{first-bytes, store-in}
+use Rattle.saiga.specs.Values.{null, ofBytes, toBytes, isWord, truth}
+use Rattle.saiga.specs.declared.Value.{Value}
+use Rattle.saiga.specs.Expressions.{Head, base-literal, function-literal, if-head, application-head, attribute-head, this-head, parameter-head, no-head, headOf}
+use Rattle.saiga.specs.Types.{attributeAt}
+use Rattle.saiga.specs.Sheet.{Sheet, nodeCount, accepted}
+use Rattle.saiga.specs.Caching.{Entry}
+use Rattle.saiga.specs.Store.{entryBytes, entryOf, isEntry, readEntries, checkStore, leftStore}
+use Rattle.saiga.proofs.Preservation.{either}
+use Rattle.saiga.proofs.FourBytes.{word-trip}
+use Rattle.saiga.proofs.Entries.{first-bytes, store-in}
 use Rattle.stores.specs.Keys.{Key, findKey, entriesIn, recordOf, putAt}
-use Rattle.stores.proofs.Entries.{entries-are, entries-last}
+use Rattle.stores.proofs.ByKey.{entries-are, entries-last}
 use Rattle.stores.proofs.Written.{left-more}
 use Rattle.engine.specs.Steps.{Memory, Stepped, goes, waits, finishes, stops, readHead, appended, unlessFound, cacheWrite, closeForm, takeIf, within, openRule, openFigure, takeKept, attributeDue, give, readNext, stepOf}
 use Rattle.engine.specs.declared.Registers.{Registers}

@@ -10,28 +10,28 @@ use lib.Dec.{ltb, leb}
 use lib.ListN.{length, take-append-drop}
 use lib.Seq.{take-length, drop-length}
 use borrow.Author.Tests.{leb-true}
-use Rattle.specs.specs.Values.{Ty, base}
-use Rattle.specs.specs.declared.Value.{Value}
-use Rattle.specs.specs.declared.Value.the-variants.{Unit as unit}
-use Rattle.specs.specs.Sheet.{Sheet, nodeCount, attributeCount, accepted, checkSheet, questionScope, context}
-use Rattle.specs.specs.Caching.{Entry, Due, State, Ending, with-value, Reason, by, Ended, dueAt}
-use Rattle.specs.specs.Runs.{Runs}
-use Rattle.specs.specs.Store.{checkStore, entriesBytes, leftStore}
-use Rattle.specs.specs.Expressions.{Expr, Whole, no-expression, readWhole}
-use Rattle.specs.specs.Ask.{checkType, checkQuestion, asked, reasonNumber, endedAnswer, outcome, runQuestion}
-use Rattle.specs.specs.Sound.{RunningIn, EntryIn, All}
-use Rattle.specs.proofs.Accepted.{accepted-sheet}
-use Rattle.specs.proofs.Entries.{store-in}
-use Rattle.specs.proofs.Ends.{counted-within}
-use Rattle.specs.proofs.Preservation.{put-in, DueIn, due-in}
-use Rattle.specs.proofs.Calls.{question-runs, question-in}
+use Rattle.saiga.specs.Values.{Ty, base}
+use Rattle.saiga.specs.declared.Value.{Value}
+use Rattle.saiga.specs.declared.Value.the-variants.{Unit as unit}
+use Rattle.saiga.specs.Sheet.{Sheet, nodeCount, attributeCount, accepted, checkSheet, questionScope, context}
+use Rattle.saiga.specs.Caching.{Entry, Due, State, Ending, with-value, Reason, by, Ended, dueAt}
+use Rattle.saiga.specs.Runs.{Runs}
+use Rattle.saiga.specs.Store.{checkStore, entriesBytes, leftStore}
+use Rattle.saiga.specs.Expressions.{Expr, Whole, no-expression, readWhole}
+use Rattle.saiga.specs.Ask.{checkType, checkQuestion, asked, reasonNumber, endedAnswer, outcome, runQuestion}
+use Rattle.saiga.specs.Sound.{RunningIn, EntryIn, All}
+use Rattle.saiga.proofs.Accepted.{accepted-sheet}
+use Rattle.saiga.proofs.Entries.{store-in}
+use Rattle.saiga.proofs.RunEnds.{counted-within}
+use Rattle.saiga.proofs.Preservation.{put-in, DueIn, due-in}
+use Rattle.saiga.proofs.Calls.{question-runs, question-in}
 use Rattle.sheets.specs.Scan.{Indexed}
-use Rattle.pieces.specs.Pieces.{pieceIn, restOf}
-use Rattle.machine.specs.Machine.{Machine, Next, by-move, by-step, openForms, stateOf}
-use Rattle.machine.specs.Good.{Pieces, Good}
-use Rattle.machine.proofs.Bounds.{measure, move-falls, small-on, start-small}
-use Rattle.machine.proofs.Simulation.{Uncounted, same, written, simulates, good-on, runs-on}
-use Rattle.machine.proofs.Start.{start, question-start, pieces}
+use Rattle.engine.specs.RunningPiece.{pieceIn, restOf}
+use Rattle.engine.specs.Machine.{Machine, Next, by-move, by-step, openForms, stateOf}
+use Rattle.engine.specs.Good.{Pieces, Good}
+use Rattle.engine.proofs.Bounds.{measure, move-falls, small-on, start-small}
+use Rattle.engine.proofs.Simulation.{Uncounted, same, written, simulates, good-on, runs-on}
+use Rattle.engine.proofs.Start.{start, question-start, pieces}
 use Rattle.engine.specs.Decode.{sheetIn, sheetOf, entriesOf, framesIn, modeOf, machineOf}
 use Rattle.engine.specs.Steps.{Memory, Stepped, goes, waits, stepOf}
 use Rattle.engine.specs.Steps as Steps

@@ -9,30 +9,30 @@ use native.Mathlib.Omega.{arith}
 use lib.Dec.{leb, eqb, lit<}
 use lib.ListN.{length, drop, getD, set, length-set}
 use borrow.Author.Tests.{leb-true, leb-false, ltb-true, eqb-true, eqb-false, lt-ltb, le-ltb}
-use Rattle.specs.specs.Values.{truth, nodeOf, apply}
-use Rattle.specs.specs.declared.Value.{Value}
-use Rattle.specs.specs.declared.Value.the-variants.{Node as node}
-use Rattle.specs.specs.Expressions.{Expr, Scope, Head, base-literal, function-literal, if-head, application-head, attribute-head, this-head, parameter-head, no-head, headOf, operandWidth, Reading, reads, whenever, readOperand, readAfter, readExpr}
-use Rattle.specs.specs.Sheet.{Sheet, ruleScope, questionScope, attributeCount}
-use Rattle.specs.specs.Terms.{Occurrence}
-use Rattle.specs.specs.Caching.{Counted, CondTrue, CondFalse, AppApp, spent}
-use Rattle.specs.specs.Store.{checkStore}
-use Rattle.specs.specs.Ask.{reasonNumber}
-use Rattle.specs.proofs.Preservation.{either}
-use Rattle.specs.proofs.Reading.{read-width}
-use Rattle.pieces.specs.Pieces.{restOf}
-use Rattle.frames.specs.Words.{valueIn}
-use Rattle.machine.specs.Machine.{Frame, on-if, on-left, on-skip, on-right, on-node, Mode, evaluating, returning, Machine, openForms, innermost, scopeIn, widthOf, passOver, Move, moves, takes, readHead, within, branch, give, readNext, moveOf, move}
+use Rattle.saiga.specs.Values.{truth, nodeOf, apply}
+use Rattle.saiga.specs.declared.Value.{Value}
+use Rattle.saiga.specs.declared.Value.the-variants.{Node as node}
+use Rattle.saiga.specs.Expressions.{Expr, Scope, Head, base-literal, function-literal, if-head, application-head, attribute-head, this-head, parameter-head, no-head, headOf, operandWidth, Reading, reads, whenever, readOperand, readAfter, readExpr}
+use Rattle.saiga.specs.Sheet.{Sheet, ruleScope, questionScope, attributeCount}
+use Rattle.saiga.specs.Terms.{Occurrence}
+use Rattle.saiga.specs.Caching.{Counted, CondTrue, CondFalse, AppApp, spent}
+use Rattle.saiga.specs.Store.{checkStore}
+use Rattle.saiga.specs.Ask.{reasonNumber}
+use Rattle.saiga.proofs.Preservation.{either}
+use Rattle.saiga.proofs.Reading.{read-width}
+use Rattle.engine.specs.RunningPiece.{restOf}
+use Rattle.values.specs.Packed.{valueIn}
+use Rattle.engine.specs.Machine.{Frame, on-if, on-left, on-skip, on-right, on-node, Mode, evaluating, returning, Machine, openForms, innermost, scopeIn, widthOf, passOver, Move, moves, takes, readHead, within, branch, give, readNext, moveOf, move}
 use Rattle.engine.specs.Decode.{sheetOf, entriesOf, formOccurrence, framesIn, modeOf, machineOf}
 use Rattle.engine.specs.Steps.{Memory, Stepped, goes, returned, pushed, answered, writeWord, turned, takeIf, closeForm, attributeDue, stepOf}
 use Rattle.engine.specs.Steps as Steps
 use Rattle.engine.specs.declared.Registers.{Registers}
-use Rattle.machine.specs.Good.{Parses, Ready, GoodAt}
-use Rattle.machine.proofs.Bounds.{frames-fit, room-to-push}
-use Rattle.machine.specs.Machine.{Next, by-move, by-step}
-use Rattle.machine.proofs.Heads.{none-inside}
+use Rattle.engine.specs.Good.{Parses, Ready, GoodAt}
+use Rattle.engine.proofs.Bounds.{frames-fit, room-to-push}
+use Rattle.engine.specs.Machine.{Next, by-move, by-step}
+use Rattle.engine.proofs.Heads.{none-inside}
 use Rattle.engine.specs.Represents.{machineIn, HoldsIn, Represents, Matches, WidthOf, Packs, PacksIn}
-use Rattle.engine.proofs.Words.{WordOf, if-kind, left-kind, skip-kind, right-kind, node-kind, right-word, node-word, parameter-word, pushed-frame, top-frame, turned-frame, frames-count, innermost-form, rest-on, rest-length, rest-inside, rest-behind}
+use Rattle.engine.proofs.Decoding.{WordOf, if-kind, left-kind, skip-kind, right-kind, node-kind, right-word, node-word, parameter-word, pushed-frame, top-frame, turned-frame, frames-count, innermost-form, rest-on, rest-length, rest-inside, rest-behind}
 
 -- ---- What reading has tested behind a head
 

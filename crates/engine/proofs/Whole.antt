@@ -3,7 +3,7 @@ use mathlib.Core.List.{List}
 use mathlib.Core.Path.{refl}
 use Prim.Native.Nat.{ℕ, _/_}
 use lib.ListN.{length}
-use Rattle.pieces.specs.Pieces.{restOf}
+use Rattle.engine.specs.RunningPiece.{restOf}
 use Rattle.engine.specs.Decode.{sheetOf}
 use Rattle.engine.specs.Steps.{Memory, stepOf}
 use Rattle.engine.specs.declared.Registers.{Registers}

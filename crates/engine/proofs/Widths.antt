@@ -4,9 +4,9 @@ use mathlib.Core.Path.{_≡_, refl}
 use Prim.Native.Nat.{ℕ, zero, suc, _+_, _-_, _/_, _%_, _≤_}
 use native.Mathlib.Omega.{arith}
 use lib.ListN.{length, getD}
-use Rattle.specs.specs.Expressions.{Scope, headOf}
-use Rattle.pieces.specs.Pieces.{shapeOf}
-use Rattle.pieces.proofs.Passing.{shape-moves, Ahead, one-ahead, none-ahead, more-inside, turn}
+use Rattle.saiga.specs.Expressions.{Scope, headOf}
+use Rattle.expressions.specs.Widths.{shapeOf}
+use Rattle.expressions.proofs.Passing.{shape-moves, Ahead, one-ahead, none-ahead, more-inside, turn}
 use Rattle.engine.specs.Represents.{WidthOf}
 
 module _ (l : List ℕ) where

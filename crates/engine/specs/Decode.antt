@@ -5,15 +5,15 @@ use mathlib.Core.Path.{_≡_}
 use Prim.Native.Nat.{ℕ, zero, suc, _+_, _*_, _-_, _/_, _%_, _≤_, _<_}
 use lib.Dec.{eqb}
 use lib.ListN.{length, getD}
-use Rattle.specs.specs.Values.{baseOf, ofWord, toWord}
-use Rattle.specs.specs.declared.Value.{Value}
-use Rattle.specs.specs.Sheet.{Sheet, emptySheet, Checked, refused, accepted, checkSheet}
-use Rattle.specs.specs.Terms.{Occurrence}
-use Rattle.specs.specs.Caching.{Entry}
-use Rattle.specs.specs.Store.{checkStore}
-use Rattle.pieces.specs.Pieces.{pieceIn, restOf}
-use Rattle.frames.specs.Words.{valueIn}
-use Rattle.machine.specs.Machine.{Frame, on-if, on-left, on-skip, on-right, on-node, on-parameter, on-form, Mode, evaluating, returning, Machine, openForms}
+use Rattle.saiga.specs.Values.{baseOf, ofWord, toWord}
+use Rattle.saiga.specs.declared.Value.{Value}
+use Rattle.saiga.specs.Sheet.{Sheet, emptySheet, Checked, refused, accepted, checkSheet}
+use Rattle.saiga.specs.Terms.{Occurrence}
+use Rattle.saiga.specs.Caching.{Entry}
+use Rattle.saiga.specs.Store.{checkStore}
+use Rattle.engine.specs.RunningPiece.{pieceIn, restOf}
+use Rattle.values.specs.Packed.{valueIn}
+use Rattle.engine.specs.Machine.{Frame, on-if, on-left, on-skip, on-right, on-node, on-parameter, on-form, Mode, evaluating, returning, Machine, openForms}
 use Rattle.engine.specs.declared.Registers.{Registers}
 
 -- the sheet that accepted bytes are

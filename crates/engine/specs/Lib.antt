@@ -1,3 +1,6 @@
+pub mod Machine
+pub mod Good
+pub mod RunningPiece
 pub mod Decode
 pub mod Steps
 pub mod Represents

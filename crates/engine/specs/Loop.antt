@@ -4,12 +4,12 @@ use mathlib.Core.List.{List}
 use mathlib.Core.Path.{_≡_}
 use Prim.Native.Nat.{ℕ, _/_, _≤_}
 use lib.ListN.{length}
-use Rattle.specs.specs.declared.Value.{Value}
-use Rattle.specs.specs.Sheet.{context}
-use Rattle.specs.specs.Caching.{Ending, Ended}
-use Rattle.specs.specs.Store.{leftStore}
-use Rattle.specs.specs.Runs.{Runs}
-use Rattle.machine.specs.Machine.{stateOf}
+use Rattle.saiga.specs.declared.Value.{Value}
+use Rattle.saiga.specs.Sheet.{context}
+use Rattle.saiga.specs.Caching.{Ending, Ended}
+use Rattle.saiga.specs.Store.{leftStore}
+use Rattle.saiga.specs.Runs.{Runs}
+use Rattle.engine.specs.Machine.{stateOf}
 use Rattle.engine.specs.Decode.{sheetOf}
 use Rattle.engine.specs.Steps.{Memory}
 use Rattle.engine.specs.declared.Registers.{Registers}

@@ -4,9 +4,9 @@ use mathlib.Core.List.{List}
 use mathlib.Core.Path.{_≡_}
 use Prim.Native.Nat.{ℕ, _+_, _*_, _-_, _/_, _%_, _≤_, _<_}
 use lib.ListN.{length, getD, set}
-use Rattle.specs.specs.Values.{baseOf, isWord}
-use Rattle.specs.specs.Expressions.{Head, base-literal, function-literal, if-head, application-head, attribute-head, this-head, parameter-head, no-head, headOf}
-use Rattle.pieces.specs.Pieces.{headWidth}
+use Rattle.saiga.specs.Values.{baseOf, isWord}
+use Rattle.saiga.specs.Expressions.{Head, base-literal, function-literal, if-head, application-head, attribute-head, this-head, parameter-head, no-head, headOf}
+use Rattle.expressions.specs.Widths.{headWidth}
 use Rattle.engine.specs.Represents.{WidthOf, Packs}
 use Rattle.engine.specs.Steps.{Memory}
 use Rattle.engine.specs.declared.Registers.{Registers}

@@ -4,21 +4,21 @@ use mathlib.Core.List.{List}
 use mathlib.Core.Path.{_≡_}
 use Prim.Native.Nat.{ℕ, _-_, _/_, _%_, _≤_, _<_}
 use lib.ListN.{length, getD}
-use Rattle.specs.specs.Values.{Base, base}
-use Rattle.specs.specs.declared.Value.{Value}
-use Rattle.specs.specs.Expressions.{Expr, Scope, reads, readExpr}
-use Rattle.specs.specs.Sheet.{nodeCount, attributeCount, accepted, checkSheet}
-use Rattle.specs.specs.Caching.{Reason}
-use Rattle.specs.specs.Ask.{reasonNumber}
-use Rattle.specs.specs.Sound.{RunningIn}
+use Rattle.saiga.specs.Values.{Base, base}
+use Rattle.saiga.specs.declared.Value.{Value}
+use Rattle.saiga.specs.Expressions.{Expr, Scope, reads, readExpr}
+use Rattle.saiga.specs.Sheet.{nodeCount, attributeCount, accepted, checkSheet}
+use Rattle.saiga.specs.Caching.{Reason}
+use Rattle.saiga.specs.Ask.{reasonNumber}
+use Rattle.saiga.specs.Sound.{RunningIn}
 use Rattle.sheets.specs.Scan.{Indexed}
-use Rattle.frames.specs.Words.{valueIn}
-use Rattle.machine.specs.Machine.{Machine, finishes, stops, move, stateOf}
+use Rattle.values.specs.Packed.{valueIn}
+use Rattle.engine.specs.Machine.{Machine, finishes, stops, move, stateOf}
 use Rattle.engine.specs.Decode.{sheetOf, machineOf, Holds}
 use Rattle.engine.specs.Steps.{Memory, Stepped, goes, waits}
 use Rattle.engine.specs.declared.Registers.{Registers}
-use Rattle.machine.specs.Good.{Good, Small}
-use Rattle.machine.specs.Machine.{Next}
+use Rattle.engine.specs.Good.{Good, Small}
+use Rattle.engine.specs.Machine.{Next}
 
 -- the machine that registers and memory hold
 abbrev pub machineIn : List ℕ → List ℕ → Memory → Registers → Machine

@@ -5,12 +5,12 @@ use mathlib.Core.List.{List, [], _∷_, _++_}
 use Prim.Native.Nat.{ℕ, _+_, _*_, _-_, _/_, _%_}
 use lib.Dec.{leb, eqb}
 use lib.ListN.{length, take, drop, getD, set}
-use Rattle.specs.specs.Values.{null, functionOf, baseOf, ofBytes, toBytes, ofWord, toWord, truth, nodeOf, apply}
-use Rattle.specs.specs.declared.Value.{Value}
-use Rattle.specs.specs.declared.Value.the-variants.{Node as node, Function as function}
-use Rattle.specs.specs.Expressions.{Head, base-literal, function-literal, if-head, application-head, attribute-head, this-head, parameter-head, no-head, headOf, operandWidth}
-use Rattle.pieces.specs.Pieces.{restOf}
-use Rattle.frames.specs.Words.{valueIn}
+use Rattle.saiga.specs.Values.{null, functionOf, baseOf, ofBytes, toBytes, ofWord, toWord, truth, nodeOf, apply}
+use Rattle.saiga.specs.declared.Value.{Value}
+use Rattle.saiga.specs.declared.Value.the-variants.{Node as node, Function as function}
+use Rattle.saiga.specs.Expressions.{Head, base-literal, function-literal, if-head, application-head, attribute-head, this-head, parameter-head, no-head, headOf, operandWidth}
+use Rattle.engine.specs.RunningPiece.{restOf}
+use Rattle.values.specs.Packed.{valueIn}
 use Rattle.sheets.specs.Scan.{figurePlace, rulePlace, figureAt, indexed}
 use Rattle.stores.specs.Keys.{Key, findKey}
 use Rattle.engine.specs.Decode.{formOccurrence}

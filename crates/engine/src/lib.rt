@@ -1,12 +1,13 @@
 // The evaluator: a machine with explicit frames in lent memory (document 01, "The steps").
-use specs::Value;
+use saiga::Value;
 ghost use mathlib.Core.List.{List};
 ghost use mathlib.Core.Path.{_≡_};
 ghost use Prim.Native.Nat.{ℕ, _+_, _*_, _/_, _%_, _^_, _≤_, _<_};
 ghost use lib.ListN.{length};
-ghost use Rattle.specs.specs.Values.{truth, apply as applied};
-ghost use Rattle.frames.specs.Words.{valueIn};
-ghost use Rattle.pieces.specs.Pieces.{Starts};
+ghost use Rattle.saiga.specs.Values.{truth, apply as applied};
+ghost use Rattle.values.specs.Packed.{valueIn};
+ghost use Rattle.expressions.specs.Widths.{Starts};
+ghost use Rattle.engine.specs.RunningPiece.{pieceIn, restOf};
 ghost use Rattle.engine.specs.Steps.{goes, returned as returnedTo, pushed as pushedOn, answered as answeredBy, turned as turnedTo, thisNode, thisParameter, readNext, takeIf};
 ghost use Rattle.engine.specs.Ready.{memoryOf, NodeReady, ParameterReady, ReadReady, Rewrites, Passes, skipped};
 
@@ -35,6 +36,23 @@ const ON_RIGHT: u64 = 3;
 const ON_NODE: u64 = 4;
 
 const ON_PARAMETER: u64 = 5;
+
+// The rest of the running piece: of the question while no form is open, of the sheet inside a form.
+pub fn running<'a>(
+    sheet: &'a [u8],
+    question: &'a [u8],
+    forms: usize,
+    at: usize,
+    end: usize,
+) -> &'a [u8]
+    requires { ⌜ (at ≤ end) × (end ≤ length (pieceIn (now sheet) (now question) forms)) ⌝ }
+    ensures { λ r. ⌜ now r ≡ restOf (now (sheet .entry)) (now (question .entry)) forms at end ⌝ }
+{
+    if forms == 0 {
+        return &question[at..end];
+    }
+    &sheet[at..end]
+}
 
 // The registers with a value to return, `w` bytes further.
 fn returned(m: Registers, w: usize, v: Value) -> Registers
@@ -144,7 +162,7 @@ pub fn read_head(
         0x11 => returned(m, 2, Value::Bool(e[1] == 1)),
         0x12 => returned(m, 5, Value::Int(values::signed(values::four(e, 1)))),
         0x13 => returned(m, 3, Value::Node(values::two(e, 1) as u16)),
-        0x14 => returned(m, 2, Value::Function(frames::function_of(e[1] as u32))),
+        0x14 => returned(m, 2, Value::Function(values::function_of(e[1] as u32))),
         0x20 => {
             frames[top] = ON_IF;
             pushed(m, 1)
@@ -172,7 +190,7 @@ pub fn take_left(frames: &mut [u64], m: Registers) -> Registers
 {
     let top = m.frames - 1;
     let value = m.value;
-    frames[top] = ON_RIGHT + 8 * frames::pack(value);
+    frames[top] = ON_RIGHT + 8 * values::packed::pack(value);
     turned(m)
 }
 
@@ -184,7 +202,7 @@ pub fn take_node(frames: &mut [u64], m: Registers, a: u64) -> Registers
 {
     let top = m.frames - 1;
     let value = m.value;
-    frames[top] = ON_PARAMETER + 8 * (a + 32 * frames::pack(value));
+    frames[top] = ON_PARAMETER + 8 * (a + 32 * values::packed::pack(value));
     turned(m)
 }
 
@@ -197,7 +215,7 @@ pub fn take_skip(e: &[u8], m: Registers) -> Registers
     let value = m.value;
     Registers {
         returning: true,
-        at: m.at + pieces::width(e),
+        at: m.at + expressions::width(e),
         end: m.end,
         frames: m.frames - 1,
         forms: m.forms,
@@ -232,7 +250,7 @@ pub fn take_if(e: &[u8], frames: &mut [u64], m: Registers) -> Registers
     }
     Registers {
         returning: false,
-        at: m.at + pieces::width(e),
+        at: m.at + expressions::width(e),
         end: m.end,
         frames: m.frames - 1,
         forms: m.forms,
@@ -251,6 +269,6 @@ pub fn take_right(m: Registers, w: u64) -> Registers
     answered(
         m,
         m.kept,
-        values::apply(frames::unpack(w / 8 % 68719476736), value),
+        values::apply(values::packed::unpack(w / 8 % 68719476736), value),
     )
 }

@@ -7,10 +7,10 @@ use native.Mathlib.Omega.{arith}
 use lib.ListN.{length, take, drop, getD, length-drop}
 use borrow.Author.Tests.{le-leb, lt-leb, lt-ltb, le-ltb}
 use borrow.Rule.Slice.PartAt.{part-to-end}
-use Rattle.specs.specs.Values.{Base, Ty}
-use Rattle.specs.specs.Expressions.{Expr, Head, if-head, application-head, attribute-head, headOf, Scope, Reading, malformed, reads, _followed-by_, whenever, readAfter, readExpr}
-use Rattle.specs.specs.Types.{Attribute, attributeAt, inferIf, inferApplication, infer}
-use Rattle.specs.proofs.Reading.{read-width}
+use Rattle.saiga.specs.Values.{Base, Ty}
+use Rattle.saiga.specs.Expressions.{Expr, Head, if-head, application-head, attribute-head, headOf, Scope, Reading, malformed, reads, _followed-by_, whenever, readAfter, readExpr}
+use Rattle.saiga.specs.Types.{Attribute, attributeAt, inferIf, inferApplication, infer}
+use Rattle.saiga.proofs.Reading.{read-width}
 use Rattle.expressions.specs.declared.Form.{Form}
 use Rattle.expressions.specs.declared.Form.the-variants.{Malformed, Reads}
 use Rattle.expressions.specs.Forms.{inferredNumber, inferAttribute, formOf, formAfter}

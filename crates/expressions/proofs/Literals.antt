@@ -9,10 +9,10 @@ use lib.ListN.{length, take, drop, getD}
 use lib.Seq.{getD-drop}
 use borrow.Rule.Slice.PartAt.{part-to-end}
 use borrow.Author.Tests.{le-leb, lt-leb, lt-ltb, le-ltb, eq-eqb, ne-eqb}
-use Rattle.specs.specs.Values.{Base, unitT, intT, nodeT, baseCode, null, functionOf, functionType, ofBytes, isWord, typeOf}
-use Rattle.specs.specs.Expressions.{Scope, base-literal, function-literal, this-head, parameter-head, no-head, headOf, operandWidth, readOperand, readAfter, whenever}
-use Rattle.specs.specs.Types.{Attribute, infer}
-use Rattle.specs.proofs.Words.{word-in, in-type}
+use Rattle.saiga.specs.Values.{Base, unitT, intT, nodeT, baseCode, null, functionOf, functionType, ofBytes, isWord, typeOf}
+use Rattle.saiga.specs.Expressions.{Scope, base-literal, function-literal, this-head, parameter-head, no-head, headOf, operandWidth, readOperand, readAfter, whenever}
+use Rattle.saiga.specs.Types.{Attribute, infer}
+use Rattle.saiga.proofs.FourBytes.{word-in, in-type}
 use Rattle.expressions.specs.declared.Form.the-variants.{Malformed, Reads}
 use Rattle.expressions.specs.Forms.{typeNumber, inferredNumber, formOf, formAfter}
 

@@ -6,18 +6,18 @@ use mathlib.Core.Path.{_≡_, refl, sym, ap, _∙_}
 use Prim.Native.Nat.{ℕ, _-_, _≤_, _<_}
 use native.Mathlib.Omega.{arith}
 use lib.ListN.{length}
-use Rattle.specs.specs.Values.{Base, unitT, baseCode, baseOf, Ty, base, _⇒_}
-use Rattle.specs.specs.Expressions.{Expr, Whole, no-expression, expression, readWhole}
-use Rattle.specs.specs.Types.{infer}
-use Rattle.specs.specs.Sheet.{Sheet, nodeCount, refused, accepted, questionScope}
-use Rattle.specs.specs.Ask.{ofBaseType, checkType, checkQuestion}
+use Rattle.saiga.specs.Values.{Base, unitT, baseCode, baseOf, Ty, base, _⇒_}
+use Rattle.saiga.specs.Expressions.{Expr, Whole, no-expression, expression, readWhole}
+use Rattle.saiga.specs.Types.{infer}
+use Rattle.saiga.specs.Sheet.{Sheet, nodeCount, refused, accepted, questionScope}
+use Rattle.saiga.specs.Ask.{ofBaseType, checkType, checkQuestion}
 use Rattle.expressions.specs.declared.Formed.{Formed}
 use Rattle.expressions.specs.declared.Formed.the-variants.{NoExpression, Expression}
 use Rattle.expressions.specs.declared.QuestionCheck.{QuestionCheck}
 use Rattle.expressions.specs.declared.QuestionCheck.the-variants.{Refused, Accepted}
 use Rattle.expressions.specs.Forms.{typeNumber, inferredNumber, scopeOf, formedOf, inferredCode, questionOf}
 use Rattle.values.specs.Layout.{attributesIn}
-use Rattle.expressions.proofs.Numbers.{base-small, number-positive, attributes-count}
+use Rattle.expressions.proofs.TypeNumbers.{base-small, number-positive, attributes-count}
 
 -- ---- What the code answers
 

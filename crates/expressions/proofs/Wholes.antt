@@ -5,9 +5,9 @@ use Prim.Native.Nat.{ℕ, _≤_, _<_}
 use native.Mathlib.Omega.{arith}
 use lib.ListN.{length}
 use borrow.Author.Tests.{le-leb, lt-leb, eq-eqb, ne-eqb}
-use Rattle.specs.specs.Values.{Base}
-use Rattle.specs.specs.Expressions.{Scope, Reading, malformed, reads, exactly, readExpr, readWhole}
-use Rattle.specs.specs.Types.{Attribute}
+use Rattle.saiga.specs.Values.{Base}
+use Rattle.saiga.specs.Expressions.{Scope, Reading, malformed, reads, exactly, readExpr, readWhole}
+use Rattle.saiga.specs.Types.{Attribute}
 use Rattle.expressions.specs.declared.Form.{Form}
 use Rattle.expressions.specs.declared.Form.the-variants.{Malformed, Reads}
 use Rattle.expressions.specs.declared.Formed.the-variants.{NoExpression, Expression}

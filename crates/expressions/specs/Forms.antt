@@ -1,13 +1,13 @@
--- What the code answers of an expression's form and type, by the definitions of crate specs.
+-- What the code answers of an expression's form and type, by the definitions of crate saiga.
 use mathlib.Core.Bool.{Bool}
 use mathlib.Core.Option.{Option, none, some}
 use mathlib.Core.List.{List}
 use Prim.Native.Nat.{ℕ, _+_, _*_, _/_, _%_}
 use lib.Dec.{eqb}
-use Rattle.specs.specs.Values.{Base, unitT, nodeT, baseCode, Ty, base, _⇒_}
-use Rattle.specs.specs.Expressions.{Expr, Head, Scope, Reading, malformed, reads, readAfter, readExpr, Whole, no-expression, expression}
-use Rattle.specs.specs.Types.{Attribute, given, infer}
-use Rattle.specs.specs.Sheet.{Checked, refused, accepted}
+use Rattle.saiga.specs.Values.{Base, unitT, nodeT, baseCode, Ty, base, _⇒_}
+use Rattle.saiga.specs.Expressions.{Expr, Head, Scope, Reading, malformed, reads, readAfter, readExpr, Whole, no-expression, expression}
+use Rattle.saiga.specs.Types.{Attribute, given, infer}
+use Rattle.saiga.specs.Sheet.{Checked, refused, accepted}
 use Rattle.expressions.specs.declared.Form.{Form}
 use Rattle.expressions.specs.declared.Form.the-variants.{Malformed, Reads}
 use Rattle.expressions.specs.declared.Formed.{Formed}

@@ -1,4 +1,5 @@
-// The form and the type of expressions (document 01, "The sheet"), read in one recursion over the bytes.
+// The form and the type of expressions (document 01, "The sheet"), read in one recursion over the bytes; and the width of the expression at the
+// front of bytes that are known to have one.
 // A type has a number (specs/Forms.antt): 1 Unit, 2 Bool, 3 Int, 4 Node, and from 5 on those of functions; 0 stands for no type.
 ghost use mathlib.Core.Bool.{cond};
 ghost use mathlib.Core.Path.{_≡_};
@@ -6,12 +7,13 @@ ghost use mathlib.Core.List.{List};
 ghost use mathlib.Core.Option.{Option};
 ghost use Prim.Native.Nat.{ℕ, _+_, _*_, _%_, _≤_, _<_};
 ghost use lib.ListN.{length};
-ghost use Rattle.specs.specs.Values.{Base, boolT, nodeT, baseCode, baseOf, Ty, functionOf, functionType};
-ghost use Rattle.specs.specs.Expressions.{Scope, base-literal, function-literal, if-head, application-head, attribute-head, readExpr, readWhole};
-ghost use Rattle.specs.specs.Types.{Attribute, attributeAt, inferIf, inferApplication};
-ghost use Rattle.specs.specs.Sheet.{Sheet, nodeCount};
-ghost use Rattle.specs.specs.Ask.{checkQuestion};
+ghost use Rattle.saiga.specs.Values.{Base, boolT, nodeT, baseCode, baseOf, Ty, functionOf, functionType};
+ghost use Rattle.saiga.specs.Expressions.{Scope, Expr, base-literal, function-literal, if-head, application-head, attribute-head, headOf, reads, readExpr, readWhole};
+ghost use Rattle.saiga.specs.Types.{Attribute, attributeAt, inferIf, inferApplication};
+ghost use Rattle.saiga.specs.Sheet.{Sheet, nodeCount};
+ghost use Rattle.saiga.specs.Ask.{checkQuestion};
 ghost use Rattle.expressions.specs.Forms.{typeNumber, inferredNumber, inferAttribute, scopeOf, thisIn, parameterIn, formOf, formAfter, formedOf, questionOf};
+ghost use Rattle.expressions.specs.Widths.{Starts, shapeOf};
 ghost use Rattle.values.specs.Layout.{attributesIn};
 
 // What reading at the front of some bytes comes to: no expression, or the bytes that one takes and the number of its type.
@@ -310,4 +312,37 @@ pub fn check_question(
         return QuestionCheck::Refused(13);
     }
     QuestionCheck::Accepted(t - 1)
+}
+
+// ---- The width of an expression
+
+// How many bytes a head takes with its operand, and eight times how many expressions follow it.
+fn head_shape(head: u8) -> usize
+    ensures { λ r. ⌜ r ≡ shapeOf (headOf head) ⌝ }
+{
+    match head {
+        0x11 => 2,
+        0x12 => 5,
+        0x13 => 3,
+        0x14 => 2,
+        0x20 => 25,
+        0x21 => 17,
+        0x22 => 18,
+        _ => 1,
+    }
+}
+
+// The width of the expression at the front, in any scope in which there is one.
+pub fn width(e: &[u8]) -> usize
+    requires { ⌜ Starts (now e) ⌝ }
+    ensures { λ r. ⌜ ((sc : Scope) (f : Expr) (w : ℕ) → readExpr sc (length (now (e .entry))) (now (e .entry)) ≡ reads f w → r ≡ w) ⌝ }
+{
+    let mut left = 1;
+    let mut at = 0;
+    while 0 < left {
+        let shape = head_shape(e[at]);
+        at += shape % 8;
+        left = left - 1 + shape / 8;
+    }
+    at
 }

@@ -1,3 +1,3 @@
 pub mod Decimals
-pub mod Writing
-pub mod Numbers
+pub mod Appending
+pub mod DecimalSays

@@ -4,7 +4,7 @@ use mathlib.Core.List.{List, [], _∷_, _++_}
 use Prim.Native.Nat.{ℕ, zero, suc, _+_, _/_, _%_}
 use lib.Dec.{ltb}
 use lib.IntN.{ℤ, pos, negsuc}
-use Rattle.specs.specs.Ask.{Answer}
+use Rattle.saiga.specs.Ask.{Answer}
 
 -- the digits of a number, of which there are at most k
 unfoldable pub decimalWithin : ℕ → ℕ → List ℕ

@@ -8,7 +8,7 @@ use native.Mathlib.Omega.{arith}
 use lib.Dec.{eqb}
 use lib.ListN.{length, length-append, length-drop}
 use borrow.Author.Tests.{eqb-true, eqb-false}
-use Rattle.specs.specs.Ask.{Answer}
+use Rattle.saiga.specs.Ask.{Answer}
 use Rattle.stream.specs.declared.Next.{Next}
 use Rattle.stream.specs.declared.Next.the-variants.{Question, Cut, End, More}
 use Rattle.stream.proofs.Items.{told}

@@ -1,9 +1,9 @@
 pub mod Puts
 pub mod Counts
-pub mod Preparing
+pub mod PreparedEmpty
 pub mod Turns
-pub mod Running
+pub mod TurnByTurn
 pub mod PrintedL
 pub mod Few
-pub mod Runs
+pub mod RunPrints
 pub mod LongSheets

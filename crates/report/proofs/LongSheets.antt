@@ -8,9 +8,9 @@ use lib.Dec.{leb}
 use lib.ListN.{length, take}
 use lib.Seq.{take-all, length-take-le}
 use borrow.Author.Tests.{leb-true, leb-false, lt-leb}
-use Rattle.specs.specs.Sheet.{checkSheet}
-use Rattle.specs.specs.Ask.{checkCall, ask}
-use Rattle.specs.specs.Calls.{Call, Lent, empty, call, answers}
+use Rattle.saiga.specs.Sheet.{checkSheet}
+use Rattle.saiga.specs.Ask.{checkCall, ask}
+use Rattle.saiga.specs.Calls.{Call, Lent, empty, call, answers}
 use Rattle.stream.specs.Stream.{items}
 use Rattle.report.specs.Printed.{calls, lines, printed}
 

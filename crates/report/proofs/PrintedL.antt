@@ -1,6 +1,6 @@
 -- The four lines of document 01, by computation.
 use mathlib.Core.Path.{refl}
-use Rattle.specs.proofs.TableL.{definitions}
+use Rattle.saiga.proofs.TableL.{definitions}
 use Rattle.lines.specs.Lines.{decimalWithin, decimal, signedDecimal, fields, lineOf}
 use Rattle.stream.specs.Stream.{front, itemsWithin, items}
 use Rattle.report.specs.Printed.{put, calls, lines, printed}

@@ -5,18 +5,18 @@ use Prim.Native.Nat.{ℕ, _+_, _≤_}
 use native.Mathlib.Omega.{arith}
 use lib.ListN.{length}
 use lib.Seq.{sets, sets-eq, length-sets, take-at}
-use Rattle.specs.specs.Ask.{refusal, ask}
-use Rattle.specs.specs.Calls.{leaves, call}
+use Rattle.saiga.specs.Ask.{refusal, ask}
+use Rattle.saiga.specs.Calls.{leaves, call}
 use Rattle.sheets.specs.declared.SheetCheck.{SheetCheck}
 use Rattle.sheets.specs.declared.SheetCheck.the-variants.{Refused}
-use Rattle.checks.specs.Answers.{answerOf}
-use Rattle.checks.specs.Prepared.{PreparedStore}
-use Rattle.checks.proofs.Laws.{sheet-refused, refused-by-sheet}
+use Rattle.calls.specs.Answers.{answerOf}
+use Rattle.calls.specs.Prepared.{PreparedStore}
+use Rattle.calls.proofs.CheckLaws.{sheet-refused, refused-by-sheet}
 use Rattle.calls.proofs.Preparing.{refuses}
 use Rattle.lines.specs.Lines.{lineOf}
 use Rattle.report.specs.Printed.{asks}
 use Rattle.report.specs.Report.{Prepared, Put, Line, lent, after}
-use Rattle.checks.specs.declared.Answer as Declared
+use Rattle.calls.specs.declared.Answer as Declared
 
 module _ {check : SheetCheck} {sheet index store : List ℕ} {kept : ℕ} {links : List ℕ} (p : Prepared check sheet index store kept links) where
   pub put-refused : {number place : ℕ} {r : Declared.Answer} (question : List ℕ) → check ≡ Refused number place → answerOf r ≡ refusal [] kept number place .answer

@@ -7,7 +7,7 @@ use native.Mathlib.Omega.{arith}
 use lib.Dec.{eqb}
 use lib.ListN.{length, take, drop, length-drop}
 use lib.Seq.{take-take, drop-drop, length-take-le, take-nil, take-add}
-use Rattle.specs.specs.Calls.{Lent, call}
+use Rattle.saiga.specs.Calls.{Lent, call}
 use Rattle.lines.specs.Lines.{lineOf}
 use Rattle.stream.specs.declared.Next.the-variants.{Question, Cut, End, More}
 use Rattle.stream.specs.Stream.{front}

@@ -1,8 +1,8 @@
 -- What the report program prints (document 01, "Sheet L and its questions"): sheet.bin and standard input as bytes, and the lines as bytes.
 use mathlib.Core.List.{List, [], _∷_, _++_}
 use Prim.Native.Nat.{ℕ}
-use Rattle.specs.specs.Ask.{Answer}
-use Rattle.specs.specs.Calls.{Call, empty, answers}
+use Rattle.saiga.specs.Ask.{Answer}
+use Rattle.saiga.specs.Calls.{Call, empty, answers}
 use Rattle.lines.specs.Lines.{lineOf}
 use Rattle.stream.specs.Stream.{Item, question, cut, items}
 

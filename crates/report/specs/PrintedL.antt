@@ -2,7 +2,7 @@
 use mathlib.Core.List.{List, [], _∷_, _++_}
 use mathlib.Core.Path.{_≡_}
 use Prim.Native.Nat.{ℕ}
-use Rattle.specs.specs.TableL.{sheetL, D, node2Dial, ownOfUp}
+use Rattle.saiga.specs.TableL.{sheetL, D, node2Dial, ownOfUp}
 use Rattle.report.specs.Printed.{printed}
 
 -- "For L and D, D, node 2's dial, L10 it prints exactly" four lines.

@@ -6,20 +6,20 @@ use mathlib.Core.Path.{_≡_}
 use Prim.Native.Nat.{ℕ, suc, _+_, _-_, _≤_}
 use lib.Dec.{eqb}
 use lib.ListN.{length, take, drop}
-use Rattle.specs.specs.Ask.{Answer, ask}
-use Rattle.specs.specs.Calls.{Lent, empty, leaves, call}
+use Rattle.saiga.specs.Ask.{Answer, ask}
+use Rattle.saiga.specs.Calls.{Lent, empty, leaves, call}
 use Rattle.sheets.specs.Scan.{Checks}
 use Rattle.sheets.specs.declared.SheetCheck.{SheetCheck}
 use Rattle.sheets.specs.declared.SheetCheck.the-variants.{Accepted}
-use Rattle.checks.specs.Answers.{answerOf}
-use Rattle.checks.specs.Prepared.{PreparedStore}
+use Rattle.calls.specs.Answers.{answerOf}
+use Rattle.calls.specs.Prepared.{PreparedStore}
 use Rattle.stream.specs.declared.Next.{Next}
 use Rattle.stream.specs.declared.Next.the-variants.{Question, Cut, End, More}
 use Rattle.stream.specs.Stream.{front}
 use Rattle.stream.specs.Next.{nextOf}
 use Rattle.report.specs.Printed.{asks}
 use Rattle.report.specs.declared.State.{State}
-use Rattle.checks.specs.declared.Answer as Declared
+use Rattle.calls.specs.declared.Answer as Declared
 
 -- ---- A question
 

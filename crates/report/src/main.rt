@@ -1,15 +1,15 @@
 // The report program (document 01): it reads the sheet in sheet.bin, takes questions from standard input and prints a line for each.
 mod system;
 
-use checks::Answer;
+use calls::Answer;
 use sheets::SheetCheck;
 use stream::Next;
 ghost use mathlib.Core.Path.{_≡_};
 ghost use Prim.Native.Nat.{_≤_};
 ghost use lib.ListN.{length};
 ghost use lib.Seq.{sets};
-ghost use Rattle.specs.specs.Calls.{empty, call};
-ghost use Rattle.checks.specs.Answers.{answerOf};
+ghost use Rattle.saiga.specs.Calls.{empty, call};
+ghost use Rattle.calls.specs.Answers.{answerOf};
 ghost use Rattle.lines.specs.Lines.{lineOf};
 ghost use Rattle.report.specs.Printed.{asks, lines};
 ghost use Rattle.report.specs.Report.{Prepared, Put, Line, lent, after, viewOf, chunkOf, turned, given, Within, Fetched, Ran};
@@ -92,7 +92,7 @@ fn ask<'a>(
     ensures { λ r. ⌜ Put check (now (sheet .entry)) (now (index .entry)) (now (question .entry)) (now (store .entry)) kept (now (store .exit)) (now (links .exit)) r ⌝ }
 {
     match check {
-        SheetCheck::Refused(number, place) => checks::refuse(number, place, kept),
+        SheetCheck::Refused(number, place) => calls::refuse(number, place, kept),
         SheetCheck::Accepted(attributes, nodes) => calls::ask_checked(
             sheet,
             index,

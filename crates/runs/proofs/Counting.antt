@@ -7,12 +7,12 @@ use Prim.Native.Nat.{ℕ, _%_, _≤_, _<_}
 use native.Mathlib.Omega.{arith}
 use lib.Dec.{leb, eqb}
 use borrow.Author.Tests.{leb-false}
-use Rattle.specs.specs.Values.{null, truth}
-use Rattle.specs.specs.declared.Value.{Value}
-use Rattle.specs.specs.Expressions.{Head, base-literal, function-literal, if-head, application-head, attribute-head, this-head, parameter-head, no-head, headOf}
+use Rattle.saiga.specs.Values.{null, truth}
+use Rattle.saiga.specs.declared.Value.{Value}
+use Rattle.saiga.specs.Expressions.{Head, base-literal, function-literal, if-head, application-head, attribute-head, this-head, parameter-head, no-head, headOf}
 use Rattle.engine.specs.declared.Registers.{Registers}
 use Rattle.engine.specs.Steps.{Memory, Stepped, goes, waits, finishes, stops, readHead, takeIf, within, closeForm, openRule, openFigure, takeKept, attributeDue, give, readNext, stepOf}
-use Rattle.specs.proofs.Preservation.{either}
+use Rattle.saiga.proofs.Preservation.{either}
 
 module _ (sheet index : List ℕ) (attributes limit : ℕ) (mem : Memory) (m : Registers) where
   -- the count stays within the limit

@@ -6,9 +6,9 @@ use Prim.Native.Nat.{ℕ, _+_, _*_, _-_, _/_, _%_, _≤_}
 use native.Mathlib.Omega.{arith}
 use lib.ListN.{getD, set}
 use borrow.Author.Tests.{ne-eqb}
-use Rattle.specs.specs.Values.{truth, nodeOf, apply}
-use Rattle.pieces.specs.Pieces.{restOf}
-use Rattle.frames.specs.Words.{valueIn}
+use Rattle.saiga.specs.Values.{truth, nodeOf, apply}
+use Rattle.engine.specs.RunningPiece.{restOf}
+use Rattle.values.specs.Packed.{valueIn}
 use Rattle.stores.specs.Keys.{Linked}
 use Rattle.engine.specs.declared.Registers.{Registers}
 use Rattle.engine.specs.Steps.{Memory, Stepped, goes, turned, answered, takeIf, within, closeForm, attributeDue, give}

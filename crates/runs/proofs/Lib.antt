@@ -1,5 +1,5 @@
 pub mod Limits
-pub mod Ready
+pub mod ReadyForAttributes
 pub mod Giving
 pub mod Stepping
 pub mod Counting

@@ -5,7 +5,7 @@ use lib.Dec.{leb}
 use borrow.Author.Tests.{le-leb, lt-leb}
 use Rattle.engine.specs.declared.Registers.{Registers}
 use Rattle.engine.specs.Steps.{Memory, Stepped, waits, stops, within}
-use Rattle.specs.proofs.Preservation.{either}
+use Rattle.saiga.proofs.Preservation.{either}
 use Rattle.attributes.specs.declared.Step.{Step}
 use Rattle.attributes.specs.declared.Step.the-variants.{Goes, Waits, Finishes, Stops}
 use Rattle.attributes.specs.Due.{steppedOf, keptAfter, keptIn}

@@ -4,7 +4,7 @@ use mathlib.Core.Path.{_≡_, refl, sym, ap, _∙_}
 use Prim.Native.Nat.{ℕ, _≤_, _<_}
 use native.Mathlib.Omega.{arith}
 use lib.ListN.{length}
-use Rattle.specs.specs.Caching.{Ended}
+use Rattle.saiga.specs.Caching.{Ended}
 use Rattle.stores.specs.Keys.{Linked}
 use Rattle.engine.specs.declared.Registers.{Registers}
 use Rattle.engine.specs.Steps.{Memory, Stepped, goes, stepOf}
@@ -12,7 +12,7 @@ use Rattle.engine.specs.Represents.{machineIn}
 use Rattle.engine.specs.Ready.{memoryOf}
 use Rattle.engine.specs.Loop.{Invariant}
 use Rattle.engine.proofs.Loop.{invariant-on, invariant-falls, invariant-waits, invariant-finishes, invariant-stops}
-use Rattle.machine.proofs.Bounds.{measure}
+use Rattle.engine.proofs.Bounds.{measure}
 use Rattle.attributes.specs.declared.Step.{Step}
 use Rattle.attributes.specs.declared.Step.the-variants.{Goes, Waits, Finishes, Stops}
 use Rattle.attributes.specs.Due.{steppedOf, keptAfter}

@@ -4,9 +4,9 @@ use mathlib.Core.List.{List}
 use mathlib.Core.Path.{_≡_}
 use Prim.Native.Nat.{ℕ, _≤_, _<_}
 use lib.ListN.{length}
-use Rattle.specs.specs.Caching.{with-value, Reason, by, Ended}
-use Rattle.specs.specs.Ask.{reasonNumber}
-use Rattle.pieces.specs.Pieces.{restOf}
+use Rattle.saiga.specs.Caching.{with-value, Reason, by, Ended}
+use Rattle.saiga.specs.Ask.{reasonNumber}
+use Rattle.engine.specs.RunningPiece.{restOf}
 use Rattle.stores.specs.Keys.{Linked}
 use Rattle.engine.specs.declared.Registers.{Registers}
 use Rattle.engine.specs.Steps.{Memory, give, stepOf}

@@ -6,10 +6,10 @@ ghost use mathlib.Core.List.{List};
 ghost use mathlib.Core.Path.{_≡_};
 ghost use Prim.Native.Nat.{ℕ, _+_, _-_, _/_, _%_, _^_, _≤_, _<_};
 ghost use lib.ListN.{length, getD};
-ghost use Rattle.specs.specs.Values.{truth, apply as applied};
-ghost use Rattle.specs.specs.Caching.{Ended};
-ghost use Rattle.frames.specs.Words.{valueIn};
-ghost use Rattle.pieces.specs.Pieces.{Starts};
+ghost use Rattle.saiga.specs.Values.{truth, apply as applied};
+ghost use Rattle.saiga.specs.Caching.{Ended};
+ghost use Rattle.values.specs.Packed.{valueIn};
+ghost use Rattle.expressions.specs.Widths.{Starts};
 ghost use Rattle.stores.specs.Keys.{Linked};
 ghost use Rattle.engine.specs.Steps.{Memory, goes, answered as answeredBy, takeIf, within};
 ghost use Rattle.engine.specs.Ready.{memoryOf, Passes};
@@ -82,12 +82,12 @@ fn give<'a>(
     let kind = w % 8;
     match kind {
         0 => {
-            let e = pieces::running(sheet, question, m.forms, m.at, m.end);
+            let e = engine::running(sheet, question, m.forms, m.at, m.end);
             give_if(e, frames, budget, limit, m)
         }
         1 => Step::Goes(engine::take_left(frames, m)),
         2 => {
-            let e = pieces::running(sheet, question, m.forms, m.at, m.end);
+            let e = engine::running(sheet, question, m.forms, m.at, m.end);
             Step::Goes(engine::take_skip(e, m))
         }
         3 => give_right(budget, limit, m, w),
@@ -129,7 +129,7 @@ pub fn step<'a>(
         (now (links .exit)) m r ⌝ }
 {
     if !m.returning {
-        let e = pieces::running(sheet, question, m.forms, m.at, m.end);
+        let e = engine::running(sheet, question, m.forms, m.at, m.end);
         return Step::Goes(engine::read_head(sheet, e, frames, forms, m));
     }
     if m.frames == 0 {

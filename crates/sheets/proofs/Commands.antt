@@ -7,16 +7,16 @@ use Prim.Native.Nat.{ℕ, _+_, _*_, _-_, _≤_, _<_}
 use native.Mathlib.Omega.{arith}
 use lib.ListN.{length, take, drop, getD, set}
 use borrow.Author.Tests.{lt-ltb, le-ltb, le-leb, lt-leb, eq-eqb, ne-eqb}
-use Rattle.specs.specs.Values.{Base, unitT, boolT, intT, nodeT, baseCode, baseOf, Ty, base, _⇒_, ofBytes, isWord}
-use Rattle.specs.specs.Expressions.{Expr, Whole, no-expression, expression, readWhole}
-use Rattle.specs.specs.Types.{Attribute, infer, hasType}
-use Rattle.specs.specs.Sheet.{Command, no-command, commandOf}
+use Rattle.saiga.specs.Values.{Base, unitT, boolT, intT, nodeT, baseCode, baseOf, Ty, base, _⇒_, ofBytes, isWord}
+use Rattle.saiga.specs.Expressions.{Expr, Whole, no-expression, expression, readWhole}
+use Rattle.saiga.specs.Types.{Attribute, infer, hasType}
+use Rattle.saiga.specs.Sheet.{Command, no-command, commandOf}
 use Rattle.values.specs.Layout.{attributesIn}
-use Rattle.specs.proofs.Inference.{hasType-sound, hasType-complete}
+use Rattle.saiga.proofs.Inference.{hasType-sound, hasType-complete}
 use Rattle.expressions.specs.declared.Formed.{Formed}
 use Rattle.expressions.specs.declared.Formed.the-variants.{NoExpression, Expression}
 use Rattle.expressions.specs.Forms.{typeNumber, inferredNumber, scopeOf, formedOf}
-use Rattle.expressions.proofs.Numbers.{base-small, number-positive}
+use Rattle.expressions.proofs.TypeNumbers.{base-small, number-positive}
 use Rattle.sheets.specs.declared.Progress.{Progress}
 use Rattle.sheets.specs.declared.Read.{Read}
 use Rattle.sheets.specs.declared.Read.the-variants.{Stops, Ends, GoesOn}

@@ -12,9 +12,9 @@ use lib.Dec.{eqb}
 use lib.ListN.{length, drop, getD, set, length-set}
 use lib.Seq.{getD-drop, getD-set-same, getD-set-other}
 use borrow.Author.Tests.{eqb-true, eqb-false, eq-eqb, ne-eqb}
-use Rattle.specs.specs.Values.{baseOf}
-use Rattle.specs.specs.Types.{Attribute, attributeAt}
-use Rattle.specs.specs.Sheet.{Sheet, nodeCount, attributeCount, figureFor, ruleFor, ruled, figured, definition}
+use Rattle.saiga.specs.Values.{baseOf}
+use Rattle.saiga.specs.Types.{Attribute, attributeAt}
+use Rattle.saiga.specs.Sheet.{Sheet, nodeCount, attributeCount, figureFor, ruleFor, ruled, figured, definition}
 use Rattle.sheets.specs.Scan.{figurePlace, rulePlace, figureAt, pieceAt, indexed, clearRow, FigureFits, RuleFits, Indexed}
 use Rattle.values.specs.Layout.{attributesIn, kindsIn}
 

@@ -6,9 +6,9 @@ use mathlib.Core.Path.{_≡_, refl, sym, ap, _∙_}
 use Prim.Native.Nat.{ℕ, zero, suc, _+_, _*_, _-_, _≤_, _<_}
 use native.Mathlib.Omega.{arith}
 use lib.ListN.{length, take, drop, getD}
-use Rattle.specs.specs.Values.{baseOf, ofBytes, isWord, ofWord}
-use Rattle.specs.specs.declared.Value.{Value}
-use Rattle.specs.proofs.Words.{word-more}
+use Rattle.saiga.specs.Values.{baseOf, ofBytes, isWord, ofWord}
+use Rattle.saiga.specs.declared.Value.{Value}
+use Rattle.saiga.proofs.FourBytes.{word-more}
 use Rattle.sheets.specs.Scan.{figureAt, pieceAt, indexed, IndexedPair, IndexedRule, ruleNumber}
 use Rattle.sheets.proofs.Indexed.{kind-by-index}
 

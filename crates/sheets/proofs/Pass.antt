@@ -7,8 +7,8 @@ use native.Mathlib.Omega.{arith}
 use lib.Dec.{leb, ltb, eqb}
 use lib.ListN.{length, getD}
 use borrow.Author.Tests.{leb-true}
-use Rattle.specs.specs.Expressions.{Whole, no-expression, expression}
-use Rattle.specs.specs.Sheet.{Sheet, emptySheet, nodeCount, attributeCount, Read as SheetRead, Command, attribute-command, node-command, figure-command, rule-command, end-command, no-command, commandOf}
+use Rattle.saiga.specs.Expressions.{Whole, no-expression, expression}
+use Rattle.saiga.specs.Sheet.{Sheet, emptySheet, nodeCount, attributeCount, Read as SheetRead, Command, attribute-command, node-command, figure-command, rule-command, end-command, no-command, commandOf}
 use Rattle.sheets.specs.declared.Progress.{Progress}
 use Rattle.sheets.specs.declared.Read.{Read}
 use Rattle.sheets.specs.declared.Read.the-variants.{Stops, Ends, GoesOn}

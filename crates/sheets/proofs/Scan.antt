@@ -13,11 +13,11 @@ use lib.Dec.{leb, ltb, eqb, eqb·suc-zero}
 use lib.ListN.{length, take, drop, getD, length-append, length-drop, drop-of-length-le, List·getD-append}
 use lib.Seq.{drop-cons, drop-drop, getD-drop, getD-append-seam, length-take-le}
 use borrow.Author.Tests.{leb-true, leb-false, ltb-true, ltb-false, eqb-true, eqb-false, le-leb, lt-leb}
-use Rattle.specs.specs.Values.{ofBytes, isWord}
-use Rattle.specs.specs.Expressions.{Expr, Scope, Whole, no-expression, expression, readWhole}
-use Rattle.specs.specs.Types.{attributeAt}
-use Rattle.specs.specs.Sheet.{Sheet, emptySheet, nodeCount, attributeCount, figureFor, ruleFor, ruleScope, ruled, figured, definition, isDefined, gapAt, gapFrom, Command, attribute-command, node-command, figure-command, rule-command, end-command, no-command, commandOf, Read, stops as read-stops, ends as read-ends, goes-on as read-on, require, isNone, readAttribute, readNode, readFigure, requireRule, readRule, readEnd, readCommand, readNext, Checked, refused, accepted, complete, readCommands, checkSheet}
-use Rattle.specs.proofs.Inference.{cond-passes}
+use Rattle.saiga.specs.Values.{ofBytes, isWord}
+use Rattle.saiga.specs.Expressions.{Expr, Scope, Whole, no-expression, expression, readWhole}
+use Rattle.saiga.specs.Types.{attributeAt}
+use Rattle.saiga.specs.Sheet.{Sheet, emptySheet, nodeCount, attributeCount, figureFor, ruleFor, ruleScope, ruled, figured, definition, isDefined, gapAt, gapFrom, Command, attribute-command, node-command, figure-command, rule-command, end-command, no-command, commandOf, Read, stops as read-stops, ends as read-ends, goes-on as read-on, require, isNone, readAttribute, readNode, readFigure, requireRule, readRule, readEnd, readCommand, readNext, Checked, refused, accepted, complete, readCommands, checkSheet}
+use Rattle.saiga.proofs.Inference.{cond-passes}
 use Rattle.sheets.specs.declared.Progress.{Progress}
 use Rattle.sheets.specs.declared.SheetCheck.{SheetCheck}
 use Rattle.sheets.specs.declared.SheetCheck.the-variants.{Refused, Accepted}

@@ -7,11 +7,11 @@ use mathlib.Core.Path.{_≡_}
 use Prim.Native.Nat.{ℕ, zero, suc, _+_, _*_, _≤_, _<_}
 use lib.Dec.{leb, ltb, eqb}
 use lib.ListN.{length, take, drop, getD, set}
-use Rattle.specs.specs.Values.{baseOf, base, ofBytes, isWord, ofWord}
-use Rattle.specs.specs.declared.Value.{Value}
-use Rattle.specs.specs.Expressions.{Whole, no-expression, expression, readWhole}
-use Rattle.specs.specs.Types.{hasType}
-use Rattle.specs.specs.Sheet.{Sheet, nodeCount, attributeCount, figureFor, ruleFor, Command, attribute-command, node-command, figure-command, rule-command, end-command, no-command, commandOf, Checked, refused, accepted, checkSheet}
+use Rattle.saiga.specs.Values.{baseOf, base, ofBytes, isWord, ofWord}
+use Rattle.saiga.specs.declared.Value.{Value}
+use Rattle.saiga.specs.Expressions.{Whole, no-expression, expression, readWhole}
+use Rattle.saiga.specs.Types.{hasType}
+use Rattle.saiga.specs.Sheet.{Sheet, nodeCount, attributeCount, figureFor, ruleFor, Command, attribute-command, node-command, figure-command, rule-command, end-command, no-command, commandOf, Checked, refused, accepted, checkSheet}
 use Rattle.sheets.specs.declared.Progress.{Progress}
 use Rattle.sheets.specs.declared.Read.{Read}
 use Rattle.sheets.specs.declared.Read.the-variants.{Stops, Ends, GoesOn}

@@ -1,6 +1,6 @@
 // The check of a sheet and the index that it fills: stops 1 to 8 (document 01, "The sheet" and "Stops by origin").
 use expressions::Formed;
-use specs::Value;
+use saiga::Value;
 ghost use mathlib.Core.Path.{_≡_};
 ghost use mathlib.Core.List.{List};
 ghost use Prim.Native.Nat.{ℕ, suc, _+_, _-_, _*_, _≤_, _<_};

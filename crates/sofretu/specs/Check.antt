@@ -3,11 +3,11 @@ use mathlib.Core.List.{List, [], _∷_}
 use mathlib.Core.Path.{_≡_}
 use Prim.Native.Nat.{ℕ, _/_, min}
 use lib.ListN.{length, replicate}
-use Rattle.specs.specs.Sheet.{Sheet, nodeCount, attributeCount, Checked, refused, accepted}
-use Rattle.specs.specs.Caching.{Entry}
-use Rattle.specs.specs.Store.{checkStore}
+use Rattle.saiga.specs.Sheet.{Sheet, nodeCount, attributeCount, Checked, refused, accepted}
+use Rattle.saiga.specs.Caching.{Entry}
+use Rattle.saiga.specs.Store.{checkStore}
 use Rattle.values.specs.Layout.{attributesIn}
-use Rattle.checks.specs.Prepared.{PreparedSheet, PreparedStore}
+use Rattle.calls.specs.Prepared.{PreparedSheet, PreparedStore}
 
 -- the number and the place of a check: 0 and 0 where nothing is refused
 unfoldable pub numberOf : {A : Type 0} → Checked A → ℕ

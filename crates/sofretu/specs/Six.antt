@@ -5,7 +5,7 @@ use mathlib.Core.List.{List, [], _∷_}
 use Prim.Native.Nat.{ℕ, _-_}
 use lib.Dec.{ltb}
 use lib.IntN.{ℤ, pos, negsuc}
-use Rattle.specs.specs.Ask.{Answer}
+use Rattle.saiga.specs.Ask.{Answer}
 
 -- a number of 64 bits in two's complement
 unfoldable pub inSigned : ℕ → ℤ

@@ -1,17 +1,17 @@
 // What others link: the calls of the engine as C functions, on numbers and byte slices. A slice is a pointer and then a length.
-use checks::Answer;
-use checks::Verdict;
+use calls::Answer;
+use calls::checks::Verdict;
 use sheets::SheetCheck;
 use stores::StoreCheck;
 ghost use mathlib.Core.List.{_∷_, []};
 ghost use mathlib.Core.Path.{_≡_};
 ghost use Prim.Native.Nat.{ℕ, min};
 ghost use lib.ListN.{length};
-ghost use Rattle.specs.specs.Ask.{checkCall, ask};
-ghost use Rattle.specs.specs.Sheet.{checkSheet};
-ghost use Rattle.checks.specs.Answers.{answerOf};
-ghost use Rattle.checks.specs.Prepared.{PreparedSheet, PreparedStore};
-ghost use Rattle.checks.specs.Verdict.{Indexes};
+ghost use Rattle.saiga.specs.Ask.{checkCall, ask};
+ghost use Rattle.saiga.specs.Sheet.{checkSheet};
+ghost use Rattle.calls.specs.Answers.{answerOf};
+ghost use Rattle.calls.specs.Prepared.{PreparedSheet, PreparedStore};
+ghost use Rattle.calls.specs.Verdict.{Indexes};
 ghost use Rattle.calls.specs.Askable.{RunScratch};
 ghost use Rattle.sofretu.specs.Check.{numberOf, placeOf, sheetFound, StoreFound};
 ghost use Rattle.sofretu.specs.Six.{inSigned, six};
@@ -32,7 +32,7 @@ pub extern "C" fn sofretu_check(
 {
     let mut index = [0u32; 33280];
     let mut links = [0u32; 2048];
-    match checks::check(
+    match calls::checks::check(
         sheet,
         question,
         store,

@@ -9,15 +9,15 @@ use lib.Dec.{ltb, eqb}
 use lib.ListN.{length, take, drop, getD}
 use lib.Seq.{getD-drop}
 use borrow.Author.Tests.{lt-ltb, le-ltb, le-leb, lt-leb, eq-eqb, ne-eqb}
-use Rattle.specs.specs.Values.{baseOf, ofBytes, isWord}
-use Rattle.specs.specs.Types.{attributeAt}
+use Rattle.saiga.specs.Values.{baseOf, ofBytes, isWord}
+use Rattle.saiga.specs.Types.{attributeAt}
 use Rattle.values.specs.Layout.{attributesIn}
-use Rattle.specs.specs.Sheet.{Sheet, nodeCount, refused, accepted}
-use Rattle.specs.specs.Store.{isEntry, readEntries, checkStore}
+use Rattle.saiga.specs.Sheet.{Sheet, nodeCount, refused, accepted}
+use Rattle.saiga.specs.Store.{isEntry, readEntries, checkStore}
 use Rattle.stores.specs.Keys.{keyAt, valueWord, entriesIn, Linked, storeCheckOf, StoreChecked}
 use Rattle.stores.specs.declared.StoreCheck.the-variants.{Refused, Accepted}
 use Rattle.stores.proofs.Chains.{linked-none}
-use Rattle.stores.proofs.Entries.{tests, first-tests, entry-read, entry-refused}
+use Rattle.stores.proofs.ByKey.{tests, first-tests, entry-read, entry-refused}
 
 -- ---- The attributes by their commands
 

@@ -1,5 +1,5 @@
 pub mod Parts
 pub mod Chains
-pub mod Entries
+pub mod ByKey
 pub mod Written
 pub mod Checks

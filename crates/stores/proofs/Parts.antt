@@ -5,7 +5,7 @@ use Prim.Native.Nat.{ℕ, zero, suc, _+_, _*_, _≤_, _<_}
 use native.Mathlib.Omega.{arith}
 use lib.ListN.{take, drop, getD}
 use lib.Seq.{take-take, drop-drop, getD-take, getD-drop}
-use Rattle.specs.specs.Values.{ofBytes}
+use Rattle.saiga.specs.Values.{ofBytes}
 use Rattle.stores.specs.Keys.{keyAt}
 
 -- a part of a list's front is a part of the list

@@ -6,10 +6,10 @@ use native.Mathlib.Numerals.{towards-suc}
 use native.Mathlib.Omega.{arith}
 use lib.ListN.{length, take, drop, set, length-append, length-take, length-drop}
 use lib.Seq.{sets, sets-eq, length-take-le, take-at, drop-append-le, drop-append-add, drop-drop}
-use Rattle.specs.specs.Values.{toBytes, toWord}
-use Rattle.specs.specs.Caching.{Entry}
-use Rattle.specs.specs.Store.{entryBytes, entriesBytes, leftStore}
-use Rattle.specs.proofs.Entries.{entry-length}
+use Rattle.saiga.specs.Values.{toBytes, toWord}
+use Rattle.saiga.specs.Caching.{Entry}
+use Rattle.saiga.specs.Store.{entryBytes, entriesBytes, leftStore}
+use Rattle.saiga.proofs.Entries.{entry-length}
 use Rattle.stores.specs.Keys.{Key, keyOf, recordOf, putAt, Linked}
 use Rattle.stores.proofs.Chains.{linked-same}
 

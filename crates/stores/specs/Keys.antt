@@ -6,13 +6,13 @@ use mathlib.Core.Path.{_≡_}
 use Prim.Native.Nat.{ℕ, zero, suc, _+_, _*_, _/_, _%_, _<_, _≤_}
 use lib.Dec.{eqb}
 use lib.ListN.{length, take, drop, getD}
-use Rattle.specs.specs.Values.{Base, ofBytes, toBytes, ofWord, toWord}
-use Rattle.specs.specs.declared.Value.{Value}
-use Rattle.specs.specs.Sheet.{Sheet, nodeCount, Checked, refused, accepted}
+use Rattle.saiga.specs.Values.{Base, ofBytes, toBytes, ofWord, toWord}
+use Rattle.saiga.specs.declared.Value.{Value}
+use Rattle.saiga.specs.Sheet.{Sheet, nodeCount, Checked, refused, accepted}
 use Rattle.values.specs.Layout.{attributesIn}
-use Rattle.specs.specs.Terms.{Occurrence}
-use Rattle.specs.specs.Caching.{Entry}
-use Rattle.specs.specs.Store.{entryOf, checkStore}
+use Rattle.saiga.specs.Terms.{Occurrence}
+use Rattle.saiga.specs.Caching.{Entry}
+use Rattle.saiga.specs.Store.{entryOf, checkStore}
 use Rattle.stores.specs.declared.Found.{Found}
 use Rattle.stores.specs.declared.Found.the-variants.{At, Nothing}
 use Rattle.stores.specs.declared.StoreCheck.{StoreCheck}

@@ -4,8 +4,8 @@ ghost use mathlib.Core.Path.{_≡_};
 ghost use Prim.Native.Nat.{ℕ, _+_, _*_, _≤_, _<_};
 ghost use lib.ListN.{length, take, drop, getD};
 ghost use Rattle.values.specs.Layout.{attributesIn};
-ghost use Rattle.specs.specs.Sheet.{Sheet, nodeCount, accepted};
-ghost use Rattle.specs.specs.Store.{isEntry, readEntries};
+ghost use Rattle.saiga.specs.Sheet.{Sheet, nodeCount, accepted};
+ghost use Rattle.saiga.specs.Store.{isEntry, readEntries};
 ghost use Rattle.stores.specs.Keys.{sameKey, keyAt, findKey, foundOf, entriesIn, valueWord, recordOf, putAt, bucketOf, Linked, StoreChecked, EntryPut};
 
 // Where an entry with a key stands.

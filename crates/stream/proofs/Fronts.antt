@@ -7,7 +7,7 @@ use native.Mathlib.Omega.{arith}
 use lib.ListN.{length, getD, take, drop, length-drop}
 use lib.Seq.{length-take-le}
 use borrow.Author.Tests.{le-leb, lt-leb}
-use Rattle.specs.specs.Values.{ofBytes}
+use Rattle.saiga.specs.Values.{ofBytes}
 use Rattle.stream.specs.Stream.{nothing, whole, part, front}
 use Rattle.stream.specs.Next.{nextOf}
 use Rattle.stream.specs.declared.Next.the-variants.{Question}

@@ -8,7 +8,7 @@ use lib.Dec.{leb}
 use lib.ListN.{length, take, drop, length-append, length-drop}
 use lib.Seq.{length-take-le, take-append-le, drop-append-le, drop-drop}
 use borrow.Author.Tests.{leb-true, le-leb}
-use Rattle.specs.specs.Values.{ofBytes}
+use Rattle.saiga.specs.Values.{ofBytes}
 use Rattle.stream.specs.Stream.{Front, nothing, whole, part, front, Item, question, cut, itemsWithin, items}
 use Rattle.stream.specs.Next.{nextOf}
 use Rattle.stream.specs.declared.Next.{Next}

@@ -12,7 +12,7 @@ use mir.Syntax.{Width, w32, w64}
 use mir.Val.{SFits, hbits, ofZ, toZ}
 use mir.Facts.{toZ-pos, toZ-ofZ}
 use borrow.Author.Tests.{ltb-true, ltb-false, eqb-true, eqb-false, eq-eqb, ne-eqb, le-ltb}
-use Rattle.specs.specs.Values.{lowest, highest, equalZ, unsigned}
+use Rattle.saiga.specs.Values.{lowest, highest, equalZ, unsigned}
 
 -- ---- Sums and differences
 

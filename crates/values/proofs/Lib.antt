@@ -1,3 +1,4 @@
 pub mod Integers
-pub mod Words
+pub mod TypeCodes
 pub mod Bytes
+pub mod Packing

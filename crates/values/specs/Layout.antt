@@ -3,8 +3,8 @@
 use mathlib.Core.List.{List, [], _∷_}
 use Prim.Native.Nat.{ℕ, zero, suc}
 use lib.ListN.{drop, getD}
-use Rattle.specs.specs.Values.{baseOf}
-use Rattle.specs.specs.Types.{Attribute}
+use Rattle.saiga.specs.Values.{baseOf}
+use Rattle.saiga.specs.Types.{Attribute}
 
 -- The first n attributes, from the operands of their commands, three bytes each.
 unfoldable pub attributesIn : List ℕ → ℕ → List Attribute

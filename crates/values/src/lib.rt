@@ -1,14 +1,16 @@
 // The function layer and the four-byte form of values (document 01, "Values and functions").
-use specs::Function;
-use specs::Holding;
-use specs::Value;
+pub mod packed;
+
+use saiga::Function;
+use saiga::Holding;
+use saiga::Value;
 ghost use mathlib.Core.Path.{_≡_};
 ghost use mathlib.Core.Bool.{true};
 ghost use Prim.Native.Nat.{_+_, _%_, _≤_, _<_};
 ghost use lib.IntN.{_+ℤ_, _-ℤ_};
 ghost use lib.ListN.{length, take, drop};
 ghost use lib.Seq.{sets};
-ghost use Rattle.specs.specs.Values.{baseOf, held as heldOf, truth as truthOf, number as numberOf, nodeOf, applyFunction, applyHolding, apply as applied, ofBytes, toBytes, signed as signedOf, unsigned as unsignedOf, isWord, ofWord, toWord, typeCode, decimal as decimalOf};
+ghost use Rattle.saiga.specs.Values.{baseOf, functionOf, held as heldOf, truth as truthOf, number as numberOf, nodeOf, applyFunction, applyHolding, apply as applied, ofBytes, toBytes, signed as signedOf, unsigned as unsignedOf, isWord, ofWord, toWord, typeCode, decimal as decimalOf};
 
 fn long(z: i32) -> i64
     ensures { λ r. ⌜ r ≡ z ⌝ }
@@ -102,6 +104,20 @@ fn apply_holding(h: Holding, x: Value) -> Value
         Holding::EqualNode(y) => Value::Bool(y == node_of(x)),
         Holding::Add(y) => Value::Int(held(sum(y, number(x)))),
         Holding::Subtract(y) => Value::Int(held(difference(y, number(x)))),
+    }
+}
+
+// The function with a code.
+pub fn function_of(code: u32) -> Function
+    ensures { λ r. ⌜ r ≡ functionOf code ⌝ }
+{
+    match code {
+        0 => Function::Le,
+        1 => Function::EqualInt,
+        2 => Function::EqualNode,
+        3 => Function::Not,
+        4 => Function::Add,
+        _ => Function::Subtract,
     }
 }
 

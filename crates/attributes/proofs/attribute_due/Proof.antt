@@ -1,7 +1,7 @@
 -- `attributes::attribute_due` meets its contract: by the limits, in the order in which the definition tests them.
 use Rattle.attributes.proofs.Opening.{due-null, due-spent, due-deep, due-waits, due-goes}
 use Rattle.attributes.specs.Due.{steppedOf, keptAfter}
-use Rattle.specs.specs.Values.{nodeOf}
+use Rattle.saiga.specs.Values.{nodeOf}
 use mathlib.Core.Path.{refl, _∙_, ap, sym}
 use borrow.Author.Needs.{needs}
 use Rattle.attributes.proofs.attribute_due.Statement.{statement}

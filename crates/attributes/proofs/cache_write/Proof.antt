@@ -1,5 +1,5 @@
 -- `attributes::cache_write` meets its contract: by whether the store is full and whether the key is found.
-use Rattle.attributes.proofs.Writing.{write-full, write-known}
+use Rattle.attributes.proofs.CacheWriteCases.{write-full, write-known}
 use Rattle.stores.proofs.Chains.{nothing-found, found-at}
 use mathlib.Core.Path.{refl, sym, _∙_}
 use borrow.Author.Needs.{needs}

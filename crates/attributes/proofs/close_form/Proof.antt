@@ -1,5 +1,5 @@
 -- `attributes::close_form` meets its contract: it reads the words of the innermost form, and CacheWrite does the rest.
-use Rattle.attributes.proofs.Writing.{closes}
+use Rattle.attributes.proofs.CacheWriteCases.{closes}
 use Prim.Native.Nat.{_+_, _*_, _-_}
 use native.Mathlib.Omega.{arith}
 use borrow.Author.Needs.{needs}

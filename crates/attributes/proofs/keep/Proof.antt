@@ -1,5 +1,5 @@
 -- `attributes::keep` meets its contract: by whether the store is full.
-use Rattle.attributes.proofs.Writing.{write-full, write-new}
+use Rattle.attributes.proofs.CacheWriteCases.{write-full, write-new}
 use borrow.Author.Tests.{leb-false}
 use mathlib.Core.Path.{sym, _∙_}
 use Prim.Native.Nat.{_/_}

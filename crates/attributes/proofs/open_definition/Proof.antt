@@ -1,7 +1,7 @@
 -- `attributes::open_definition` meets its contract: the figure if there is one, else there is a rule.
 use native.Mathlib.Omega.{arith}
 use Rattle.sheets.specs.Scan.{figureOf}
-use Rattle.attributes.proofs.Writing.{answers}
+use Rattle.attributes.proofs.CacheWriteCases.{answers}
 use Rattle.attributes.proofs.Opening.{no-place, figure-is, opens, opening-keeps}
 use mathlib.Core.Path.{_∙_, ap, sym}
 use borrow.Author.Needs.{needs}

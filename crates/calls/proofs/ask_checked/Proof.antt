@@ -1,6 +1,6 @@
 -- `calls::ask_checked` meets its contract: the refusals of the budget and the question, or the run; what it leaves is prepared for the next call.
 use Rattle.calls.proofs.Preparing.{refuses, refusal-keeps, scratch-as-lent, scratch-used, question-refused, question-accepts, askable, prepared-again}
-use Rattle.checks.proofs.Laws.{attributes-fit}
+use Rattle.calls.proofs.CheckLaws.{attributes-fit}
 use borrow.Author.Needs.{needs}
 use Rattle.calls.proofs.ask_checked.Statement.{statement}
 use Rattle.calls.proofs.ask_checked.Tie as tie

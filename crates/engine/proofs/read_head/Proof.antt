@@ -1,8 +1,8 @@
 -- `engine::read_head` meets its contract: each arm knows the byte, at which the operand's width and what the head reads compute; `_` knows that it
 -- is none of the nine others.
 use mathlib.Core.Path.{refl}
-use Rattle.engine.proofs.Reading.{two-operand, reads-unit, reads-bool, reads-int, reads-node, reads-function, reads-if, reads-application, reads-attribute, reads-this, reads-parameter, parameter-ready}
-use Rattle.specs.specs.Expressions.{headOf}
+use Rattle.engine.proofs.HeadsRead.{two-operand, reads-unit, reads-bool, reads-int, reads-node, reads-function, reads-if, reads-application, reads-attribute, reads-this, reads-parameter, parameter-ready}
+use Rattle.saiga.specs.Expressions.{headOf}
 use native.Mathlib.Omega.{arith}
 use mir.Facts.{toZ-ofZ}
 use lib.ListN.{length-set}

@@ -1,5 +1,5 @@
 -- `engine::take_if` meets its contract. The first branch is not measured where it is taken: its width is there all the same.
-use Rattle.engine.proofs.Reading.{skip-inside}
+use Rattle.engine.proofs.HeadsRead.{skip-inside}
 use Rattle.engine.proofs.Widths.{width-of}
 use Rattle.engine.specs.Steps.{takeIf}
 use lib.ListN.{length-set}

@@ -1,5 +1,5 @@
 -- `engine::take_skip` meets its contract: what `width` gives lies within the rest.
-use Rattle.engine.proofs.Reading.{skip-inside}
+use Rattle.engine.proofs.HeadsRead.{skip-inside}
 use native.Mathlib.Omega.{arith}
 use mathlib.Core.Path.{refl}
 use borrow.Author.Needs.{needs}

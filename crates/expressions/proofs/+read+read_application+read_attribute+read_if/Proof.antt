@@ -8,11 +8,11 @@ use native.Mathlib.Omega.{arith}
 use lib.ListN.{length}
 use borrow.Author.Tests.{eq-eqb, ne-eqb}
 use borrow.Author.Needs.{needs}
-use Rattle.specs.specs.Expressions.{headOf}
-use Rattle.specs.specs.Values.{intT}
+use Rattle.saiga.specs.Expressions.{headOf}
+use Rattle.saiga.specs.Values.{intT}
 use Rattle.expressions.proofs.Composites.{form-width, if-stops, if-stops-then, if-stops-else, if-reads, application-stops, application-stops-argument, application-reads, attribute-short, attribute-undeclared, attribute-stops, attribute-stops-parameter, attribute-reads, read-after, read-nothing}
 use Rattle.expressions.proofs.Literals.{unit-reads, operand-short, operand-reads, int-word, this-reads, this-refused, parameter-reads, parameter-refused, no-head-is, no-head-refused}
-use Rattle.expressions.proofs.Numbers.{attributes-count}
+use Rattle.expressions.proofs.TypeNumbers.{attributes-count}
 use borrow.Fn.Kinds.{In}
 use borrow.Fn.PlainCycle.{Measures, is, falls, and}
 use Rattle.expressions.proofs.read.Reads as read

@@ -1,7 +1,7 @@
--- The numbers are tested as the types would be (`application-number` of Numbers.antt).
+-- The numbers are tested as the types would be (`application-number` of TypeNumbers.antt).
 use borrow.Author.Tests.{lt-ltb, le-ltb, eq-eqb, ne-eqb}
 use borrow.Author.Needs.{needs}
-use Rattle.expressions.proofs.Numbers.{application-number}
+use Rattle.expressions.proofs.TypeNumbers.{application-number}
 use Rattle.expressions.proofs.application_number.Statement.{statement}
 use Rattle.expressions.proofs.application_number.Tie as tie
 

@@ -1,8 +1,8 @@
--- The numbers are tested as the types would be (`attribute-number` of Numbers.antt). The type bytes are those of the attribute's command.
+-- The numbers are tested as the types would be (`attribute-number` of TypeNumbers.antt). The type bytes are those of the attribute's command.
 use mathlib.Core.Path.{sym}
 use borrow.Author.Tests.{eq-eqb, ne-eqb}
 use borrow.Author.Needs.{needs}
-use Rattle.expressions.proofs.Numbers.{attribute-number}
+use Rattle.expressions.proofs.TypeNumbers.{attribute-number}
 use Rattle.expressions.proofs.attribute_number.Statement.{statement}
 use Rattle.expressions.proofs.attribute_number.Tie as tie
 

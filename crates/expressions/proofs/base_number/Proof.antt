@@ -1,6 +1,6 @@
 -- Each code has its number by computation.
 use borrow.Author.Tests.{ne-eqb}
-use Rattle.specs.specs.Values.{baseOf}
+use Rattle.saiga.specs.Values.{baseOf}
 use Rattle.expressions.proofs.base_number.Statement.{statement}
 use Rattle.expressions.proofs.base_number.Tie as tie
 

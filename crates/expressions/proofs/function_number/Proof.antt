@@ -1,6 +1,6 @@
 -- Each code has its number by computation.
 use borrow.Author.Tests.{ne-eqb}
-use Rattle.specs.specs.Values.{functionOf, functionType}
+use Rattle.saiga.specs.Values.{functionOf, functionType}
 use Rattle.expressions.specs.Forms.{typeNumber}
 use Rattle.expressions.proofs.function_number.Statement.{statement}
 use Rattle.expressions.proofs.function_number.Tie as tie

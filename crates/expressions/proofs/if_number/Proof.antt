@@ -1,7 +1,7 @@
--- The numbers are tested as the types would be (`if-number` of Numbers.antt).
+-- The numbers are tested as the types would be (`if-number` of TypeNumbers.antt).
 use mathlib.Core.Path.{sym}
 use borrow.Author.Tests.{eq-eqb, ne-eqb}
-use Rattle.expressions.proofs.Numbers.{if-number}
+use Rattle.expressions.proofs.TypeNumbers.{if-number}
 use Rattle.expressions.proofs.if_number.Statement.{statement}
 use Rattle.expressions.proofs.if_number.Tie as tie
 

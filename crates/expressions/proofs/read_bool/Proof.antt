@@ -1,7 +1,7 @@
 -- One byte is the operand, and it is a value if it is below 2.
 use borrow.Author.Tests.{lt-ltb, le-ltb}
 use borrow.Author.Needs.{needs}
-use Rattle.specs.specs.Values.{boolT, isWord}
+use Rattle.saiga.specs.Values.{boolT, isWord}
 use Rattle.expressions.proofs.Literals.{one-byte, operand-short, operand-reads, operand-refused}
 use Rattle.expressions.proofs.read_bool.Statement.{statement}
 use Rattle.expressions.proofs.read_bool.Tie as tie

@@ -1,7 +1,7 @@
 -- Two bytes are the operand, low byte first: a declared number, or null's.
 use native.Mathlib.Omega.{arith}
 use borrow.Author.Needs.{needs}
-use Rattle.specs.specs.Values.{nodeT}
+use Rattle.saiga.specs.Values.{nodeT}
 use Rattle.expressions.proofs.Literals.{two-bytes, declared-word, null-word, no-word, operand-short, operand-reads, operand-refused}
 use Rattle.expressions.proofs.read_node.Statement.{statement}
 use Rattle.expressions.proofs.read_node.Tie as tie

@@ -4,7 +4,7 @@ use Prim.Native.Nat.{ℕ, _<_}
 use native.Mathlib.Omega.{arith}
 use borrow.Fn.Kinds.{In}
 use borrow.Fn.PlainCycle.{Measures, is, falls, and}
-use Rattle.lines.proofs.Writing.{one-written, then-written}
+use Rattle.lines.proofs.Appending.{one-written, then-written}
 use Rattle.lines.proofs.Decimals.{decimal-digit, decimal-more, digit-length, more-length}
 use Rattle.lines.proofs.+digits.{statement}
 use Rattle.lines.proofs.+digits.Tie.{close}

@@ -1,6 +1,6 @@
 -- The digits, and the byte after them. A number of 64 bits has at most 20 digits.
 use native.Mathlib.Omega.{arith}
-use Rattle.lines.proofs.Writing.{one-written, then-written}
+use Rattle.lines.proofs.Appending.{one-written, then-written}
 use Rattle.lines.proofs.Decimals.{word-length}
 use Rattle.lines.proofs.field.Statement.{statement}
 use Rattle.lines.proofs.field.Tie as tie

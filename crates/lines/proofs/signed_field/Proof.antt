@@ -5,7 +5,7 @@ use native.Mathlib.Omega.{arith}
 use borrow.Author.Needs.{needs}
 use mir.Facts.{toZ-ofZ}
 use Rattle.lines.specs.Lines.{decimal}
-use Rattle.lines.proofs.Writing.{one-written, then-written}
+use Rattle.lines.proofs.Appending.{one-written, then-written}
 use Rattle.lines.proofs.Decimals.{negative-decimal, other-decimal}
 use Rattle.lines.proofs.signed_field.Statement.{statement}
 use Rattle.lines.proofs.signed_field.Tie as tie

@@ -1,6 +1,6 @@
 -- A refused sheet and an accepted one (Puts.antt).
 use borrow.Author.Needs.{needs}
-use Rattle.checks.proofs.Laws.{sheet-prepared}
+use Rattle.calls.proofs.CheckLaws.{sheet-prepared}
 use Rattle.report.proofs.Puts.{put-refused, put-accepted}
 use Rattle.report.proofs.ask.Statement.{statement}
 use Rattle.report.proofs.ask.Tie as tie

@@ -1,7 +1,7 @@
 -- The number kept, for each case of an answer.
 use mathlib.Core.Path.{ap, sym}
 use borrow.Author.Needs.{needs}
-use Rattle.checks.specs.Answers.{answerOf}
+use Rattle.calls.specs.Answers.{answerOf}
 use Rattle.report.proofs.kept_of.Statement.{statement}
 use Rattle.report.proofs.kept_of.Tie as tie
 

@@ -2,7 +2,7 @@
 use borrow.Author.Needs.{needs}
 use mir.Syntax.{w64}
 use Rattle.values.proofs.Integers.{read-back}
-use Rattle.checks.specs.Answers.{answerOf}
+use Rattle.calls.specs.Answers.{answerOf}
 use Rattle.report.proofs.line_of.Statement.{statement}
 use Rattle.report.proofs.line_of.Tie as tie
 

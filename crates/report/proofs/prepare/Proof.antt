@@ -1,7 +1,7 @@
--- The sheet, and the store of which nothing is kept (Preparing.antt).
+-- The sheet, and the store of which nothing is kept (PreparedEmpty.antt).
 use borrow.Author.Needs.{needs}
-use Rattle.checks.proofs.Laws.{sheet-prepared, attributes-fit}
-use Rattle.report.proofs.Preparing.{prepared-refused, prepared-accepted}
+use Rattle.calls.proofs.CheckLaws.{sheet-prepared, attributes-fit}
+use Rattle.report.proofs.PreparedEmpty.{prepared-refused, prepared-accepted}
 use Rattle.report.proofs.prepare.Statement.{statement}
 use Rattle.report.proofs.prepare.Tie as tie
 

@@ -1,9 +1,9 @@
--- `Running` holds from turn to turn (Running.antt). The measure is the number of turns that are left.
+-- `Running` holds from turn to turn (TurnByTurn.antt). The measure is the number of turns that are left.
 use mathlib.Core.Logic.{inl, inr}
 use mathlib.Core.Path.{refl, sym, _∙_}
 use native.Mathlib.Omega.{arith}
 use lib.Seq.{length-take-le}
-use Rattle.report.proofs.Running.{Running, made-none, still-prepared, running-on, ran}
+use Rattle.report.proofs.TurnByTurn.{Running, made-none, still-prepared, running-on, ran}
 use Rattle.report.proofs.run.Statement.{statement}
 use Rattle.report.proofs.run.Tie as tie
 

@@ -1,7 +1,7 @@
 -- `runs::give` meets its contract: each arm knows the kind of the innermost frame's word; `_` knows that it is none of the six others.
 use Rattle.runs.proofs.Giving.{gives-if, gives-left, gives-skip, gives-right, gives-node, gives-form, gives-attribute, late-kind}
-use Rattle.runs.proofs.Ready.{if-ready, skip-ready, reaches, close-ready, attribute-ready}
-use Rattle.engine.proofs.Ready.{frames-inside}
+use Rattle.runs.proofs.ReadyForAttributes.{if-ready, skip-ready, reaches, close-ready, attribute-ready}
+use Rattle.engine.proofs.ReadyForCode.{frames-inside}
 use native.Mathlib.Omega.{arith}
 use borrow.Author.Needs.{needs}
 use Rattle.runs.proofs.give.Statement.{statement}

@@ -1,10 +1,10 @@
 -- `runs::run` meets its contract. The loop's invariant: what holds from move to move holds of every call whose run this is (`Round`). The measure is the
--- machine's (Bounds.antt of crate machine).
+-- machine's (Bounds.antt of crate engine).
 use borrow.Author.Needs.{needs}
 use Rattle.runs.specs.Moves.{keptBy}
 use Rattle.attributes.specs.Due.{keptAfter}
 use mathlib.Core.Path.{_∙_}
-use Rattle.machine.proofs.Bounds.{measure}
+use Rattle.engine.proofs.Bounds.{measure}
 use Rattle.engine.specs.Represents.{machineIn}
 use Rattle.engine.specs.Ready.{memoryOf}
 use Rattle.runs.proofs.Rounds.{Round, first-round, round-ready, round-less, round-again, round-pauses, round-finishes, round-stops, round-linked}

@@ -1,6 +1,6 @@
 -- `runs::step` meets its contract: a head is read, the run is over, or a value is given.
 use Rattle.runs.proofs.Stepping.{steps-reading, steps-finishing, steps-giving}
-use Rattle.engine.proofs.Ready.{read-ready, frames-inside}
+use Rattle.engine.proofs.ReadyForCode.{read-ready, frames-inside}
 use borrow.Author.Tests.{not-true, not-false}
 use native.Mathlib.Omega.{arith}
 use mathlib.Core.Path.{refl}

@@ -1,7 +1,7 @@
 -- `sheets::read_command` meets its contract: each arm knows the command byte.
 use Rattle.sheets.proofs.Commands.{stopped, command-none, command-of-rest, read-as}
 use Rattle.sheets.specs.Scan.{scanAt}
-use Rattle.specs.specs.Sheet.{attribute-command, node-command, figure-command, rule-command, end-command, no-command, commandOf}
+use Rattle.saiga.specs.Sheet.{attribute-command, node-command, figure-command, rule-command, end-command, no-command, commandOf}
 use mathlib.Core.Path.{refl, ap}
 use borrow.Author.Needs.{needs}
 use Rattle.sheets.proofs.read_command.Statement.{statement}

@@ -1,9 +1,9 @@
 -- `sofretu::lay` meets its contract: each of the six numbers is what its field of the answer is.
-use Rattle.sofretu.proofs.Numbers.{same-six}
+use Rattle.sofretu.proofs.CallNumbers.{same-six}
 use lib.IntN.{pos}
 use mathlib.Core.Path.{refl, sym, ap, _∙_}
 use Rattle.sofretu.specs.Six.{inSigned, six}
-use Rattle.checks.specs.Answers.{answerOf}
+use Rattle.calls.specs.Answers.{answerOf}
 use mir.Syntax.{w64}
 use mir.Facts.{toZ-pos, toZ-ofZ}
 use native.Mathlib.Omega.{arith}

@@ -1,6 +1,6 @@
 -- The number and the place of the chain of checks are handed on as they are.
 use Rattle.sofretu.specs.Check.{numberOf, placeOf}
-use Rattle.checks.proofs.Laws.{verdict-refused, verdict-accepted}
+use Rattle.calls.proofs.CheckLaws.{verdict-refused, verdict-accepted}
 use mathlib.Core.Path.{sym, ap, _∙_}
 use borrow.Author.Needs.{needs}
 use Rattle.sofretu.proofs.sofretu_check.Statement.{statement}

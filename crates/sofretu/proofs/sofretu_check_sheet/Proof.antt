@@ -1,5 +1,5 @@
 -- What `sheets::check` answers is handed on; a refusal has no number 0.
-use Rattle.sofretu.proofs.Numbers.{sheet-refusal, sheet-acceptance}
+use Rattle.sofretu.proofs.CallNumbers.{sheet-refusal, sheet-acceptance}
 use borrow.Author.Needs.{needs}
 use Rattle.sofretu.proofs.sofretu_check_sheet.Statement.{statement}
 use Rattle.sofretu.proofs.sofretu_check_sheet.Tie as tie

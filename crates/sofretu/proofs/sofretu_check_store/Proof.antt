@@ -1,5 +1,5 @@
 -- What `stores::check` answers is handed on; a refusal has no number 0.
-use Rattle.sofretu.proofs.Numbers.{store-refusal, store-acceptance}
+use Rattle.sofretu.proofs.CallNumbers.{store-refusal, store-acceptance}
 use native.Mathlib.Omega.{arith}
 use borrow.Author.Needs.{needs}
 use Rattle.sofretu.proofs.sofretu_check_store.Statement.{statement}

@@ -3,7 +3,7 @@ use mathlib.Core.Path.{_∙_, sym}
 use borrow.Author.Tests.{not-true, not-false}
 use borrow.Author.Needs.{needs}
 use Rattle.stores.proofs.Chains.{nothing-found, found-at}
-use Rattle.stores.proofs.Entries.{entry-fails, entry-new, entry-known}
+use Rattle.stores.proofs.ByKey.{entry-fails, entry-new, entry-known}
 use Rattle.stores.proofs.Parts.{key-read}
 use Rattle.stores.proofs.passes.Statement.{statement}
 use Rattle.stores.proofs.passes.Tie as tie

@@ -5,7 +5,7 @@ use Prim.Native.Nat.{ℕ, _-_, _<_}
 use native.Mathlib.Omega.{arith}
 use lib.ListN.{length, take}
 use borrow.Author.Needs.{needs}
-use Rattle.specs.specs.Values.{ofBytes}
+use Rattle.saiga.specs.Values.{ofBytes}
 use Rattle.stream.proofs.Fronts.{front-nothing, front-one, front-part, next-whole, length-bound}
 use Rattle.stream.specs.Next.{nextOf}
 use Rattle.stream.proofs.next_item.Statement.{statement}

@@ -1,6 +1,6 @@
 -- `values::apply` meets its contract: each arm is given the constructor, at which `apply` computes.
 use borrow.Author.Needs.{needs}
-use Rattle.specs.specs.Values.{apply}
+use Rattle.saiga.specs.Values.{apply}
 use Rattle.values.proofs.apply.Statement.{statement}
 use Rattle.values.proofs.apply.Tie as tie
 

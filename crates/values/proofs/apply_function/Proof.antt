@@ -1,7 +1,7 @@
 -- `values::apply_function` meets its contract: each arm is given the function, at which `applyFunction` computes.
 use mir.Syntax.{w32}
 use borrow.Author.Needs.{needs}
-use Rattle.specs.specs.Values.{applyFunction}
+use Rattle.saiga.specs.Values.{applyFunction}
 use Rattle.values.proofs.Integers.{read-back}
 use Rattle.values.proofs.apply_function.Statement.{statement}
 use Rattle.values.proofs.apply_function.Tie as tie

@@ -1,7 +1,7 @@
 -- `values::apply_holding` meets its contract: each arm is given the function and what it holds, an Int or a Node, at which `applyHolding` computes.
 use mir.Syntax.{w32, w64}
 use borrow.Author.Needs.{needs}
-use Rattle.specs.specs.Values.{applyHolding}
+use Rattle.saiga.specs.Values.{applyHolding}
 use Rattle.values.proofs.Integers.{equal-bits, read-back}
 use Rattle.values.proofs.apply_holding.Statement.{statement}
 use Rattle.values.proofs.apply_holding.Tie as tie

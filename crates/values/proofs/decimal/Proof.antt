@@ -3,7 +3,7 @@ use native.Mathlib.Omega.{arith}
 use mir.Facts.{toZ-pos}
 use mir.Syntax.{w64}
 use borrow.Author.Needs.{needs}
-use Rattle.specs.specs.Values.{decimal}
+use Rattle.saiga.specs.Values.{decimal}
 use Rattle.values.proofs.Integers.{widened}
 use Rattle.values.proofs.decimal.Statement.{statement}
 use Rattle.values.proofs.decimal.Tie as tie

@@ -2,7 +2,7 @@
 use mir.Syntax.{w32}
 use mir.Val.{SFits}
 use mir.Facts.{toZ-ofZ}
-use Rattle.specs.specs.Values.{held}
+use Rattle.saiga.specs.Values.{held}
 use Rattle.values.proofs.Integers.{within-fits}
 use Rattle.values.proofs.held.Statement.{statement}
 use Rattle.values.proofs.held.Tie as tie

@@ -1,8 +1,8 @@
 -- `values::is_word` meets its contract: each arm knows the code, and `_` that it is no other's.
 use mathlib.Core.Path.{sym}
 use borrow.Author.Tests.{lt-ltb, le-ltb}
-use Rattle.specs.specs.Values.{baseOf, isWord}
-use Rattle.values.proofs.Words.{base-of-rest}
+use Rattle.saiga.specs.Values.{baseOf, isWord}
+use Rattle.values.proofs.TypeCodes.{base-of-rest}
 use Rattle.values.proofs.is_word.Statement.{statement}
 use Rattle.values.proofs.is_word.Tie as tie
 

@@ -1,7 +1,7 @@
 -- `values::node_of` meets its contract: each arm is given the constructor, at which `nodeOf` computes.
 use mathlib.Core.Path.{sym, ap}
 use borrow.Author.Needs.{needs}
-use Rattle.specs.specs.Values.{nodeOf}
+use Rattle.saiga.specs.Values.{nodeOf}
 use Rattle.values.proofs.node_of.Statement.{statement}
 use Rattle.values.proofs.node_of.Tie as tie
 

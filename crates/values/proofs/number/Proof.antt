@@ -1,7 +1,7 @@
 -- `values::number` meets its contract: each arm is given the constructor, at which `number` computes.
 use mathlib.Core.Path.{sym, ap, _∙_}
 use borrow.Author.Needs.{needs}
-use Rattle.specs.specs.Values.{number}
+use Rattle.saiga.specs.Values.{number}
 use Rattle.values.proofs.number.Statement.{statement}
 use Rattle.values.proofs.number.Tie as tie
 

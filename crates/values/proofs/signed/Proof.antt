@@ -5,7 +5,7 @@ use mir.Facts.{toZ-pos, toZ-ofZ}
 use mir.Syntax.{w32}
 use borrow.Author.Tests.{lt-ltb, le-ltb}
 use borrow.Author.Needs.{needs}
-use Rattle.specs.specs.Values.{signed}
+use Rattle.saiga.specs.Values.{signed}
 use Rattle.values.proofs.Integers.{top-half}
 use Rattle.values.proofs.signed.Statement.{statement}
 use Rattle.values.proofs.signed.Tie as tie

@@ -1,7 +1,7 @@
 -- `values::truth` meets its contract: each arm is given the constructor, at which `truth` computes.
 use mathlib.Core.Path.{sym, ap}
 use borrow.Author.Needs.{needs}
-use Rattle.specs.specs.Values.{truth}
+use Rattle.saiga.specs.Values.{truth}
 use Rattle.values.proofs.truth.Statement.{statement}
 use Rattle.values.proofs.truth.Tie as tie
 

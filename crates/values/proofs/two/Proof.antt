@@ -3,7 +3,7 @@ use Prim.Native.Nat.{suc}
 use native.Mathlib.Omega.{arith}
 use native.Mathlib.Numerals.{add-one}
 use borrow.Author.Needs.{needs}
-use Rattle.specs.specs.Values.{ofBytes}
+use Rattle.saiga.specs.Values.{ofBytes}
 use Rattle.values.proofs.Bytes.{bytes-at}
 use Rattle.values.proofs.two.Statement.{statement}
 use Rattle.values.proofs.two.Tie as tie

@@ -1,7 +1,7 @@
 -- `values::type_code` meets its contract: each arm is given the constructor, at which `typeCode` computes.
 use mathlib.Core.Path.{sym, ap}
 use borrow.Author.Needs.{needs}
-use Rattle.specs.specs.Values.{typeCode}
+use Rattle.saiga.specs.Values.{typeCode}
 use Rattle.values.proofs.type_code.Statement.{statement}
 use Rattle.values.proofs.type_code.Tie as tie
 

@@ -7,7 +7,7 @@ use lib.Signed.{mag, ltZ}
 use mir.Syntax.{w32}
 use mir.Val.{ofZ, toZ}
 use mir.Facts.{toZ-ofZ}
-use Rattle.specs.specs.Values.{unsigned}
+use Rattle.saiga.specs.Values.{unsigned}
 use Rattle.values.proofs.Integers.{turned-negative, not-negative, unsigned-negative}
 use Rattle.values.proofs.unsigned.Statement.{statement}
 use Rattle.values.proofs.unsigned.Tie as tie

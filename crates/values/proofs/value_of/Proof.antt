@@ -2,8 +2,8 @@
 use lib.Dec.{lit≤}
 use mir.Syntax.{w32}
 use borrow.Author.Needs.{needs}
-use Rattle.specs.specs.Values.{baseOf, ofWord}
-use Rattle.values.proofs.Words.{base-of-rest, node-small}
+use Rattle.saiga.specs.Values.{baseOf, ofWord}
+use Rattle.values.proofs.TypeCodes.{base-of-rest, node-small}
 use Rattle.values.proofs.Integers.{read-back}
 use Rattle.values.proofs.value_of.Statement.{statement}
 use Rattle.values.proofs.value_of.Tie as tie

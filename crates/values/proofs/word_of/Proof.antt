@@ -1,7 +1,7 @@
 -- `values::word_of` meets its contract: each arm is given the constructor, at which `toWord` computes.
 use mir.Syntax.{w32}
 use borrow.Author.Needs.{needs}
-use Rattle.specs.specs.Values.{toWord}
+use Rattle.saiga.specs.Values.{toWord}
 use Rattle.values.proofs.Integers.{read-back}
 use Rattle.values.proofs.word_of.Statement.{statement}
 use Rattle.values.proofs.word_of.Tie as tie

@@ -1,0 +1,59 @@
+-- What the code answers of a call's arguments, and what it leaves in the two indexes (document 01, "Stops by origin").
+use mathlib.Core.List.{List}
+use mathlib.Core.Path.{_≡_}
+use Prim.Native.Nat.{ℕ}
+use lib.ListN.{length}
+use Rattle.saiga.specs.Expressions.{Expr}
+use Rattle.saiga.specs.Sheet.{Sheet, nodeCount, attributeCount, Checked, refused, accepted, checkSheet}
+use Rattle.saiga.specs.Caching.{Entry}
+use Rattle.saiga.specs.Store.{checkStore}
+use Rattle.saiga.specs.Ask.{_then-check_, checkBudget, checkQuestion, AcceptedCall, checkCall}
+use Rattle.values.specs.Layout.{attributesIn}
+use Rattle.sheets.specs.Scan.{Indexed}
+use Rattle.stores.specs.Keys.{Linked}
+use Rattle.calls.specs.declared.checks.Verdict.{Verdict}
+use Rattle.calls.specs.declared.checks.Verdict.the-variants.{Refused, Accepted}
+
+-- the first stop with its place, or the numbers of attributes and nodes of the accepted sheet
+unfoldable pub verdictOf : Checked AcceptedCall → Verdict
+verdictOf (refused number place) = Refused number place
+verdictOf (accepted c) = Accepted (attributeCount (c .sheet)) (nodeCount (c .sheet))
+
+-- ---- The last links of the chain `checkCall`, each for every sheet of these attributes and nodes
+
+-- A sheet of these attributes and nodes, whose types stand in these bytes.
+pub record SheetOf (types : List ℕ) (attributes nodes : ℕ) (s : Sheet) : Type 0 where
+  pub attributes-are : s .attributes ≡ attributesIn types attributes
+  pub attributes-count : attributeCount s ≡ attributes
+  pub nodes-count : nodeCount s ≡ nodes
+
+-- stops 11 to 13
+abbrev pub fromBudget : Sheet → List ℕ → ℕ → Checked Expr
+fromBudget s question budget = checkBudget budget then-check λ _. checkQuestion s question
+
+-- stops 9 to 13
+abbrev pub fromStore : Sheet → List ℕ → ℕ → List ℕ → ℕ → Checked AcceptedCall
+fromStore s store kept question budget =
+    checkStore s store kept then-check λ entries.
+    checkBudget budget then-check λ _.
+    checkQuestion s question then-check λ e.
+    accepted record { sheet = s; entries = entries; question = e }
+
+pub record FromStore (types : List ℕ) (attributes nodes : ℕ) (store : List ℕ) (kept : ℕ) (question : List ℕ) (budget : ℕ) (links : List ℕ) (r : Verdict) : Type 0 where
+  pub answer : (s : Sheet) → SheetOf types attributes nodes s → r ≡ verdictOf (fromStore s store kept question budget)
+  pub links-length : length links ≡ 2048
+  pub linked : (s : Sheet) → SheetOf types attributes nodes s → (entries : List Entry) → checkStore s store kept ≡ accepted entries → Linked store kept links
+
+-- ---- The check of a call
+
+-- The two indexes as a check leaves them. Their lengths stay. Where the sheet is refused, both are free; where the sheet is accepted and the store
+-- is refused, the links are.
+pub record Indexes (sheet store : List ℕ) (kept : ℕ) (index links : List ℕ) : Type 0 where
+  pub index-length : length index ≡ 33280
+  pub indexed : (s : Sheet) → checkSheet sheet ≡ accepted s → Indexed sheet s index
+  pub links-length : length links ≡ 2048
+  pub linked : (s : Sheet) → checkSheet sheet ≡ accepted s → (entries : List Entry) → checkStore s store kept ≡ accepted entries → Linked store kept links
+
+pub record CallChecked (sheet store : List ℕ) (kept : ℕ) (question : List ℕ) (budget : ℕ) (index links : List ℕ) (r : Verdict) : Type 0 where
+  pub answer : r ≡ verdictOf (checkCall sheet store kept question budget)
+  pub scratch : Indexes sheet store kept index links

@@ -1,0 +1,84 @@
+// The checks of a question call: stops 1 to 13 in their order (document 01, "Stops by origin").
+use expressions::QuestionCheck;
+use sheets::SheetCheck;
+use stores::StoreCheck;
+ghost use mathlib.Core.Path.{_≡_};
+ghost use Prim.Native.Nat.{_*_, _≤_};
+ghost use lib.ListN.{length};
+ghost use Rattle.saiga.specs.Sheet.{Sheet};
+ghost use Rattle.calls.specs.Verdict.{SheetOf, fromBudget, FromStore, CallChecked};
+ghost use Rattle.expressions.specs.Forms.{questionOf};
+
+// The number and place of the first stop of 1 to 13, or the numbers of attributes and nodes of an accepted sheet.
+pub enum Verdict {
+    Refused(u32, usize),
+    Accepted(usize, usize),
+}
+
+// Stops 11 to 13, for a sheet of these attributes and nodes, whose types stand in its bytes.
+pub fn check_question(
+    sheet: &[u8],
+    attributes: usize,
+    nodes: usize,
+    question: &[u8],
+    budget: usize,
+) -> QuestionCheck
+    requires { ⌜ 3 * attributes ≤ length (now sheet) ⌝ }
+    ensures { λ r. ⌜ ((s : Sheet) → SheetOf (now (sheet .entry)) attributes nodes s → r ≡ questionOf (s .attributes) (fromBudget s (now (question .entry)) budget)) ⌝ }
+{
+    if 1000000 < budget {
+        return QuestionCheck::Refused(11);
+    }
+    expressions::check_question(sheet, attributes, nodes, question)
+}
+
+// Stops 9 to 13, for such a sheet.
+fn check_from_store(
+    sheet: &[u8],
+    attributes: usize,
+    nodes: usize,
+    question: &[u8],
+    store: &[u8],
+    kept: usize,
+    budget: usize,
+    links: &mut [u32],
+) -> Verdict
+    requires { ⌜ (3 * attributes ≤ length (now sheet)) × (length (now links) ≡ 2048) ⌝ }
+    ensures { λ r. ⌜ FromStore (now (sheet .entry)) attributes nodes (now (store .entry)) kept (now (question .entry)) budget (now (links .exit)) r ⌝ }
+{
+    match stores::check(sheet, attributes, nodes, store, kept, links) {
+        StoreCheck::Refused(number, place) => Verdict::Refused(number, place),
+        StoreCheck::Accepted => match check_question(sheet, attributes, nodes, question, budget) {
+            QuestionCheck::Refused(number) => Verdict::Refused(number, 0),
+            QuestionCheck::Accepted(_) => Verdict::Accepted(attributes, nodes),
+        },
+    }
+}
+
+// The check of a call's arguments. It fills the two indexes.
+pub fn check(
+    sheet: &[u8],
+    question: &[u8],
+    store: &[u8],
+    kept: usize,
+    budget: usize,
+    index: &mut [u32; 33280],
+    links: &mut [u32; 2048],
+) -> Verdict
+    ensures { λ r. ⌜ CallChecked (now (sheet .entry)) (now (store .entry)) kept (now (question .entry)) budget (now (index .exit)) (now (links .exit)) r ⌝ }
+{
+    let chains: &mut [u32] = links;
+    match sheets::check(sheet, index) {
+        SheetCheck::Refused(number, place) => Verdict::Refused(number, place),
+        SheetCheck::Accepted(attributes, nodes) => check_from_store(
+            sheet,
+            attributes,
+            nodes,
+            question,
+            store,
+            kept,
+            budget,
+            chains,
+        ),
+    }
+}

@@ -1,0 +1,242 @@
+-- The machine ends, and stays small: its frames fit into an array of 16,640.
+use mathlib.Core.Bool.{Bool, true, false}
+use mathlib.Core.Bool as Bool
+use mathlib.Core.Option.{Option, none, some}
+use mathlib.Core.List.{List, [], _∷_}
+use mathlib.Core.Path.{_≡_, refl}
+use Prim.Native.Nat.{ℕ, suc, _+_, _*_, _-_, _≤_, _<_}
+use native.Mathlib.Omega.{arith}
+use lib.Dec.{leb, ltb, eqb}
+use lib.ListN.{length, drop, length-drop}
+use borrow.Author.Tests.{leb-true, leb-false, ltb-true}
+use Rattle.saiga.specs.declared.Value.{Value}
+use Rattle.saiga.specs.Values.{null, truth, nodeOf}
+use Rattle.saiga.specs.Expressions.{Expr, Scope, Head, base-literal, function-literal, if-head, application-head, attribute-head, this-head, parameter-head, no-head, headOf, operandWidth, readExpr, no-expression, expression, readWhole}
+use Rattle.saiga.specs.Sheet.{Sheet, ruleScope, Definition, undefined, figure, piece-of, definition}
+use Rattle.saiga.specs.Terms.{Occurrence}
+use Rattle.saiga.specs.Caching.{Entry, Counted}
+use Rattle.saiga.proofs.Inference.{cond-passes}
+use Rattle.engine.specs.Machine.{Next, by-move, by-step, Frame, on-if, on-left, on-skip, on-right, on-node, on-parameter, on-form, Mode, evaluating, returning, Machine, openForms, scopeIn, widthOf, passOver, Move, finishes, moves, takes, stops, readHead, within, branch, defined, applied, attributeDue, give, readNext, moveOf, move}
+use Rattle.engine.specs.Good.{Parses, Pieces, GoodAt, Good, inPiece, Waiting, Small}
+
+-- ---- A measure
+
+-- A byte weighs 4, a frame 1, and a value that waits to be given 1: so a head that is read pays for its frame, or for the value, and a
+-- frame that turns into another pays by the value that it is given. A step of the budget pays for the bytes of a piece.
+unfoldable pub frameWeight : Frame → ℕ
+frameWeight on-if = 1
+frameWeight on-left = 1
+frameWeight on-skip = 1
+frameWeight (on-right v) = 1
+frameWeight (on-node a) = 1
+frameWeight (on-parameter v a) = 1
+frameWeight (on-form o outer) = 1 + 4 * length outer
+
+unfoldable pub framesWeight : List Frame → ℕ
+framesWeight [] = 0
+framesWeight (f ∷ fs) = frameWeight f + framesWeight fs
+
+unfoldable pub modeWeight : Mode → ℕ
+modeWeight evaluating = 0
+modeWeight (returning v) = 1
+
+unfoldable pub measure : ℕ → Machine → ℕ
+measure budget m = 1024 * (budget - m .steps) + 4 * length (m .rest) + framesWeight (m .frames) + modeWeight (m .mode)
+
+-- ---- What every move keeps
+
+-- how many frames a move may add
+room : Mode → ℕ
+room evaluating = 1
+room (returning v) = 0
+
+record Keeps (s : Sheet) (budget : ℕ) (m m′ : Machine) : Type 0 where
+  falls : Pieces s → Good s m → measure budget m′ < measure budget m
+  small : Pieces s → Small m → Small m′
+  forms : length (openForms (m .frames)) ≤ 64 → length (openForms (m′ .frames)) ≤ 64
+  fit : length (m′ .frames) ≤ room (m .mode) + length (m .frames)
+
+-- most moves stay in the piece
+record Shrinks (budget : ℕ) (m m′ : Machine) : Type 0 where
+  falls : measure budget m′ < measure budget m
+  small : inPiece (m′ .frames) + length (m′ .rest) ≤ inPiece (m .frames) + length (m .rest)
+  forms : length (openForms (m′ .frames)) ≤ length (openForms (m .frames))
+  fit : length (m′ .frames) ≤ room (m .mode) + length (m .frames)
+
+within-piece : {s : Sheet} {budget : ℕ} {m m′ : Machine} → Shrinks budget m m′ → (Waiting (m .frames) → Waiting (m′ .frames)) → Keeps s budget m m′
+within-piece k w =
+    record { falls = λ p g. k .falls; small = λ p h. (omega arith, w (h .1)); forms = λ n. omega arith; fit = k .fit }
+
+abbrev Onward : (Machine → Type 0) → Move → Type 0
+Onward P (finishes v) = Unit {0}
+Onward P (moves m) = P m
+Onward P (takes r m) = P m
+Onward P (stops r) = Unit {0}
+
+cond-onward : (P : Machine → Type 0) (b : Bool) (x y : Move) → (b ≡ true → Onward P x) → (b ≡ false → Onward P y) → Onward P (Bool.cond b x y)
+cond-onward P true x y f g = f refl
+cond-onward P false x y f g = g refl
+
+-- ---- Bytes
+
+drop-shorter : (n : ℕ) (l : List ℕ) → length (drop n l) ≤ length l
+drop-shorter n l = omega (arith, length-drop n l)
+
+pass-shorter : (sc : Scope) (l : List ℕ) → length (passOver sc l) ≤ length l
+unfolding passOver
+pass-shorter sc l = drop-shorter (widthOf (readExpr sc (length l) l)) l
+
+whole-short : (sc : Scope) (l : List ℕ) (e : Expr) → readWhole sc l ≡ expression e → length l ≤ 256
+unfolding readWhole
+whole-short sc l e h = leb-true (length l) 256 (cond-passes (leb (length l) 256) h no .0)
+  where
+    no : no-expression ≡ expression e → ⊥
+    no h = let z : _≡_ {A = ℕ} 0 1 = cc in omega arith
+
+nothing-parses : (sc : Scope) → Parses sc [] → ⊥
+unfolding readExpr
+nothing-parses sc p = let r = p .read in let z : _≡_ {A = ℕ} 0 1 = cc in omega arith
+
+-- ---- One move
+
+module _ (s : Sheet) (capacity budget : ℕ) (entries : List Entry) (steps : ℕ) where
+  abbrev state : Mode → List ℕ → List Frame → Machine
+  state mode l fs = record { mode = mode; rest = l; frames = fs; entries = entries; steps = steps }
+
+  -- a head with a value
+  value-on : (c : ℕ) (l k : List ℕ) (fs : List Frame) (v : Value) → length k ≤ length l
+      → Keeps s budget (state evaluating (c ∷ l) fs) (state (returning v) k fs)
+  unfolding measure modeWeight room
+  value-on c l k fs v h = within-piece (omega arith) (λ w. w)
+
+  reads-on : (c : ℕ) (l : List ℕ) (fs : List Frame) (h : Head)
+      → Keeps s budget (state evaluating (c ∷ l) fs) (readHead s capacity budget (state evaluating (c ∷ l) fs) h l)
+  unfolding readHead measure modeWeight framesWeight frameWeight room openForms
+  reads-on c l fs (base-literal t) = value-on c l _ fs _ (drop-shorter (operandWidth t) l)
+  reads-on c l fs function-literal = value-on c l _ fs _ (drop-shorter 1 l)
+  reads-on c l fs if-head = within-piece (omega arith) (λ w. w)
+  reads-on c l fs application-head = within-piece (omega arith) (λ w. w)
+  reads-on c l fs attribute-head = within-piece (omega (arith, drop-shorter 1 l)) (λ w. w)
+  reads-on c l fs this-head = value-on c l l fs _ (omega arith)
+  reads-on c l fs parameter-head = value-on c l l fs _ (omega arith)
+  reads-on c l fs no-head = value-on c l l fs _ (omega arith)
+
+  within-on : (v : Value) (l : List ℕ) (fs : List Frame) (r : Counted) (m : Machine)
+      → (steps < budget → Keeps s budget (state (returning v) l fs) m)
+      → Onward (Keeps s budget (state (returning v) l fs)) (within s capacity budget (state (returning v) l fs) r m)
+  unfolding within
+  within-on v l fs r m k = cond-onward _ (ltb steps budget) _ _ (λ h. k (ltb-true steps budget h)) (λ h. tt)
+
+  branch-on : (v : Value) (l : List ℕ) (fs : List Frame) (b : Bool)
+      → Onward (Keeps s budget (state (returning v) l (on-if ∷ fs))) (branch s capacity budget (state (returning v) l (on-if ∷ fs)) b fs)
+  unfolding branch measure modeWeight framesWeight frameWeight room openForms
+  branch-on v l fs true = within-on v l (on-if ∷ fs) _ _ λ b. within-piece (omega arith) (λ w. w)
+  branch-on v l fs false =
+      within-on v l (on-if ∷ fs) _ _ λ b. within-piece (omega (arith, pass-shorter (scopeIn s (openForms fs)) l)) (λ w. w)
+
+  -- a value at once, or a piece
+  module _ (v n : Value) (a : ℕ) (l : List ℕ) (fs : List Frame) (b : steps < budget) (few : length (openForms fs) < 64) where
+    abbrev before : Machine
+    before = state (returning v) l (on-parameter n a ∷ fs)
+
+    defined-on : (o : Occurrence) (d : Definition) → definition s (o .node) (o .attribute) ≡ d → Keeps s budget before (defined s capacity budget before o fs d)
+    unfolding defined measure modeWeight framesWeight frameWeight room openForms
+    defined-on o undefined e = within-piece (omega arith) (λ w. w)
+    defined-on o (figure u) e = within-piece (omega arith) (λ w. w)
+    defined-on o (piece-of p) e =
+        record {
+          falls = λ ps g. omega (arith, short ps);
+          small = λ ps w. (omega (arith, short ps), w);
+          forms = λ n. few;
+          fit = omega arith;
+        }
+      where
+        short : Pieces s → length p ≤ 256
+        short ps = let r = ps .whole (o .node) (o .attribute) p e in whole-short (ruleScope s) p (r .0) (r .1)
+
+    applied-on : (o : Occurrence) (k : Option Value) → Keeps s budget before (applied s capacity budget before o fs k)
+    unfolding applied measure modeWeight framesWeight frameWeight room openForms
+    applied-on o none = defined-on o _ refl
+    applied-on o (some u) = within-piece (omega arith) (λ w. w)
+
+  give-on : (v : Value) (l : List ℕ) (fs : List Frame)
+      → Onward (Keeps s budget (state (returning v) l fs)) (give s capacity budget (state (returning v) l fs) v fs)
+  unfolding give attributeDue measure modeWeight framesWeight frameWeight room openForms
+  give-on v l [] = tt
+  give-on v l (on-if ∷ fs) = branch-on v l fs (truth v)
+  give-on v l (on-left ∷ fs) = within-piece (omega arith) (λ w. w)
+  give-on v l (on-skip ∷ fs) = within-piece (omega (arith, pass-shorter (scopeIn s (openForms fs)) l)) (λ w. w)
+  give-on v l (on-right f ∷ fs) = within-on v l (on-right f ∷ fs) _ _ λ b. within-piece (omega arith) (λ w. w)
+  give-on v l (on-node a ∷ fs) = within-piece (omega arith) (λ w. w)
+  give-on v l (on-parameter n a ∷ fs) =
+      cond-onward _ (eqb (nodeOf n) null) _ _ (λ h. tt) λ h.
+      cond-onward _ (ltb steps budget) _ _ (λ b.
+      cond-onward _ (leb 64 (length (openForms fs))) _ _ (λ h. tt) λ few.
+      applied-on v n a l fs (ltb-true steps budget b) (leb-false 64 _ few) _ _) (λ h. tt)
+  give-on v l (on-form o outer ∷ fs) =
+      record { falls = λ p g. omega arith; small = λ p w. (omega arith, w .1 .1); forms = λ n. omega arith; fit = omega arith }
+
+  move-on : (mode : Mode) (l : List ℕ) (fs : List Frame) → Onward (Keeps s budget (state mode l fs)) (move s capacity budget (state mode l fs))
+  unfolding move moveOf readNext room
+  move-on evaluating [] fs =
+      record { falls = λ p g. absurd (nothing-parses (scopeIn s (openForms fs)) (g .0)); small = λ p w. w; forms = λ n. n; fit = omega arith }
+  move-on evaluating (c ∷ l) fs = reads-on c l fs (headOf c)
+  move-on (returning v) l fs = give-on v l fs
+
+next-on : {s : Sheet} {capacity budget : ℕ} {m m′ : Machine} → Next s capacity budget m m′ → Keeps s budget m m′
+next-on {s} {capacity} {budget} {m} n = go n
+  where
+    on : Onward (Keeps s budget m) (move s capacity budget m)
+    on = move-on s capacity budget (m .entries) (m .steps) (m .mode) (m .rest) (m .frames)
+
+    go : {m′ : Machine} → Next s capacity budget m m′ → Keeps s budget m m′
+    go (by-move e) = rw e at on
+    go (by-step r e) = rw e at on
+
+pub move-falls : {s : Sheet} {capacity budget : ℕ} {m m′ : Machine} → Pieces s → Good s m → Next s capacity budget m m′
+    → measure budget m′ < measure budget m
+move-falls p g n = next-on n .falls p g
+
+pub small-on : {s : Sheet} {capacity budget : ℕ} {m m′ : Machine} → Pieces s → Small m → Next s capacity budget m m′ → Small m′
+small-on p w n = next-on n .small p w
+
+pub forms-on : {s : Sheet} {capacity budget : ℕ} {m m′ : Machine} → length (openForms (m .frames)) ≤ 64 → Next s capacity budget m m′
+    → length (openForms (m′ .frames)) ≤ 64
+forms-on h n = next-on n .forms h
+
+-- ---- Room for the frames
+
+-- a value that is given takes a frame away before it pushes one
+pub frames-on : {s : Sheet} {capacity budget : ℕ} {m m′ : Machine} (v : Value) → m .mode ≡ returning v → Next s capacity budget m m′
+    → length (m′ .frames) ≤ length (m .frames)
+unfolding room
+frames-on v e n = let f = rw e at (next-on n .fit) in omega arith
+
+waiting-fit : (fs : List Frame) → Waiting fs → length fs ≤ inPiece fs + 256 * length (openForms fs)
+unfolding openForms
+waiting-fit [] w = omega arith
+waiting-fit (on-if ∷ fs) w = omega (arith, waiting-fit fs w)
+waiting-fit (on-left ∷ fs) w = omega (arith, waiting-fit fs w)
+waiting-fit (on-skip ∷ fs) w = omega (arith, waiting-fit fs w)
+waiting-fit (on-right v ∷ fs) w = omega (arith, waiting-fit fs w)
+waiting-fit (on-node a ∷ fs) w = omega (arith, waiting-fit fs w)
+waiting-fit (on-parameter v a ∷ fs) w = omega (arith, waiting-fit fs w)
+waiting-fit (on-form o outer ∷ fs) w = omega (arith, waiting-fit fs (w .1))
+
+pub frames-fit : (m : Machine) → Small m → length (m .frames) ≤ 256 * suc (length (openForms (m .frames)))
+frames-fit m w = omega (arith, waiting-fit (m .frames) (w .1))
+
+parses-bytes : (sc : Scope) (l : List ℕ) → Parses sc l → 1 ≤ length l
+parses-bytes sc [] p = absurd (nothing-parses sc p)
+parses-bytes sc (c ∷ l) p = omega arith
+
+-- so an evaluating machine, whose next byte is not yet paid with a frame, may push one
+pub room-to-push : (s : Sheet) (m : Machine) → Good s m → Small m → length (openForms (m .frames)) ≤ 64 → m .mode ≡ evaluating
+    → length (m .frames) < 16640
+room-to-push s m g w few e =
+    let good : GoodAt s evaluating (m .rest) (m .frames) = rw e at g in
+    omega (arith, waiting-fit (m .frames) (w .1), parses-bytes _ (m .rest) (good .0))
+
+pub start-small : (m : Machine) → m .frames ≡ [] → length (m .rest) ≤ 256 → Small m × (length (openForms (m .frames)) ≡ 0)
+unfolding openForms
+start-small m e h = rw e ((omega arith, tt), refl)

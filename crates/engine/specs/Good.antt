@@ -1,0 +1,69 @@
+-- Machines whose bytes are expressions as far as their frames go.
+use mathlib.Core.List.{List, [], _∷_}
+use mathlib.Core.Path.{_≡_}
+use Prim.Native.Nat.{ℕ, _+_, _≤_}
+use lib.ListN.{length}
+use Rattle.saiga.specs.Expressions.{Expr, Scope, reads, readExpr, expression, readWhole}
+use Rattle.saiga.specs.Sheet.{Sheet, ruleScope, piece-of, definition}
+use Rattle.engine.specs.Machine.{Frame, on-if, on-left, on-skip, on-right, on-node, on-parameter, on-form, Mode, evaluating, returning, Machine, openForms, scopeIn, restAt}
+
+-- an expression stands at the front of some bytes
+pub record Parses (sc : Scope) (l : List ℕ) : Type 0 where
+  pub expr : Expr
+  pub width : ℕ
+  pub read : readExpr sc (length l) l ≡ reads expr width
+
+-- every rule that a definition hands on is one expression
+pub record Pieces (s : Sheet) : Type 0 where
+  pub whole : (n a : ℕ) (p : List ℕ) → definition s n a ≡ piece-of p → (e : Expr) × (readWhole (ruleScope s) p ≡ expression e)
+
+module _ (s : Sheet) where
+  abbrev pub ParsesIn : List Frame → List ℕ → Type 0
+  ParsesIn fs l = Parses (scopeIn s (openForms fs)) l
+
+  -- what the frames have still to come to follows
+  abbrev pub Ready : List Frame → List ℕ → Type 0
+  Ready [] l = Unit {0}
+  Ready (on-if ∷ fs) l = ParsesIn fs l × ParsesIn fs (restAt s fs l) × Ready fs (restAt s fs (restAt s fs l))
+  Ready (on-left ∷ fs) l = ParsesIn fs l × Ready fs (restAt s fs l)
+  Ready (on-skip ∷ fs) l = ParsesIn fs l × Ready fs (restAt s fs l)
+  Ready (on-right v ∷ fs) l = Ready fs l
+  Ready (on-node a ∷ fs) l = ParsesIn fs l × Ready fs (restAt s fs l)
+  Ready (on-parameter v a ∷ fs) l = Ready fs l
+  Ready (on-form o outer ∷ fs) l = Ready fs outer
+
+  abbrev pub GoodAt : Mode → List ℕ → List Frame → Type 0
+  GoodAt evaluating l fs = ParsesIn fs l × Ready fs (restAt s fs l)
+  GoodAt (returning v) l fs = Ready fs l
+
+  abbrev pub Good : Machine → Type 0
+  Good m = GoodAt (m .mode) (m .rest) (m .frames)
+
+-- ---- How large a machine grows
+
+-- the frames of the innermost piece; a form's frame counts to the piece that it returns to
+abbrev pub inPiece : List Frame → ℕ
+inPiece [] = 0
+inPiece (on-if ∷ fs) = 1 + inPiece fs
+inPiece (on-left ∷ fs) = 1 + inPiece fs
+inPiece (on-skip ∷ fs) = 1 + inPiece fs
+inPiece (on-right v ∷ fs) = 1 + inPiece fs
+inPiece (on-node a ∷ fs) = 1 + inPiece fs
+inPiece (on-parameter v a ∷ fs) = 1 + inPiece fs
+inPiece (on-form o outer ∷ fs) = 0
+
+-- Each frame was pushed for a byte that is no longer in the rest of its piece, and a piece has at most 256 bytes: so much for the
+-- pieces that wait behind forms.
+abbrev pub Waiting : List Frame → Type 0
+Waiting [] = Unit {0}
+Waiting (on-if ∷ fs) = Waiting fs
+Waiting (on-left ∷ fs) = Waiting fs
+Waiting (on-skip ∷ fs) = Waiting fs
+Waiting (on-right v ∷ fs) = Waiting fs
+Waiting (on-node a ∷ fs) = Waiting fs
+Waiting (on-parameter v a ∷ fs) = Waiting fs
+Waiting (on-form o outer ∷ fs) = (1 + inPiece fs + length outer ≤ 256) × Waiting fs
+
+-- and for the running piece, of which a returning machine has read a byte more than it has frames
+abbrev pub Small : Machine → Type 0
+Small m = (inPiece (m .frames) + length (m .rest) ≤ 256) × Waiting (m .frames)

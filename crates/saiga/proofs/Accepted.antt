@@ -1,0 +1,322 @@
+-- What the check of a sheet promises (document 01, "The sheet" and "Stops by origin"): an accepted sheet is within its bounds and
+-- its context is correctly typed, a refusal is one of the stops 1 to 8, and the bound on the number of commands is never reached.
+use mathlib.Core.Bool.{Bool, true, false, cond, false≢true, _&&_, and-eq-true-iff}
+use mathlib.Core.Option.{Option, none, some}
+use mathlib.Core.List.{List, [], _∷_}
+use mathlib.Core.Logic.{_⊎_, inl, inr}
+use mathlib.Core.Path.{_≡_, refl, subst}
+use Prim.Native.Nat.{ℕ, zero, suc, _+_, _≤_, _<_}
+use native.Mathlib.Nat.{eq-or-lt-of-le}
+use native.Mathlib.Omega.{arith}
+use lib.Dec.{leb, ltb, eqb}
+use lib.ListN.{length, take, drop, getD, length-append, length-drop}
+use borrow.Author.Tests.{leb-true, ltb-true, eqb-true}
+use Rattle.saiga.specs.Values.{base, Value, ofBytes, isWord}
+use Rattle.saiga.specs.Expressions.{Expr, Whole, no-expression, expression, readWhole}
+use Rattle.saiga.specs.Types.{attributeAt}
+use Rattle.saiga.specs.Sheet.{Figure, Rule, Sheet, emptySheet, nodeCount, attributeCount, figureFor, ruleFor, ruleScope, Definition, undefined, figure, piece-of, ruled, figured, definition, wholeExpr, definitionExpr, context, Command, attribute-command, node-command, figure-command, rule-command, end-command, no-command, commandOf, Read, stops, ends, goes-on, require, readAttribute, readNode, readFigure, requireRule, readRule, readEnd, readCommand, readNext, Checked, refused, accepted, isDefined, gapAt, gapFrom, complete, readCommands, checkSheet}
+use Rattle.saiga.specs.Sound.{ExprIn, literal∈, All, all-none, all-cons, ContextIn}
+use Rattle.saiga.proofs.FourBytes.{word-in}
+use Rattle.saiga.proofs.Inference.{hasType-sound}
+use Rattle.saiga.proofs.Reading.{read-in}
+
+pub record AcceptedSheet (s : Sheet) : Type 0 where
+  pub nodes-bound : nodeCount s ≤ 1024
+  pub attributes-bound : attributeCount s ≤ 32
+  pub context-in : ContextIn (nodeCount s) (s .attributes) (context s)
+
+-- ---- The sheet so far
+
+-- A definition is an expression of the attribute's type, on what the sheet declares.
+abbrev Gives : Sheet → ℕ → Definition → Type 0
+Gives s a d =
+    ExprIn (ruleScope s) (s .attributes) (attributeAt (s .attributes) a .parameter-type) (definitionExpr s d) (base (attributeAt (s .attributes) a .result))
+
+-- A definition's bytes are one expression.
+abbrev Reads : Sheet → Definition → Type 0
+Reads s undefined = Unit {0}
+Reads s (figure v) = Unit {0}
+Reads s (piece-of p) = (e : Expr) × (readWhole (ruleScope s) p ≡ expression e)
+
+-- What holds of the sheet between two commands. Attributes and nodes are declared only up to the part of the nodes, where there is
+-- no figure and no rule yet, so each of those was checked on all that is declared.
+record SoFar (s : Sheet) (part : ℕ) : Type 0 where
+  nodes-bound : nodeCount s ≤ 1024
+  attributes-bound : attributeCount s ≤ 32
+  no-figures : part ≤ 1 → s .figures ≡ []
+  no-rules : part ≤ 1 → s .rules ≡ []
+  figures-give : All (λ f. Gives s (f .attribute) (figure (f .value))) (s .figures)
+  rules-give : All (λ r. Gives s (r .attribute) (piece-of (r .piece))) (s .rules)
+  rules-read : All (λ r. Reads s (piece-of (r .piece))) (s .rules)
+
+-- the stops of a sheet
+abbrev StopNumber : ℕ → Type 0
+StopNumber number = (1 ≤ number) × (number ≤ 8)
+
+-- What reading one command comes to, where `room` bytes are left: a stop of the sheet's; or a width that is not zero and fits, and
+-- a sheet of which the same holds.
+abbrev Fit : Sheet → ℕ → ℕ → Read → Type 0
+Fit s part room (stops number offset) = StopNumber number
+Fit s part room ends = Unit {0}
+Fit s part room (goes-on width part′ s′) = (1 ≤ width) × (width ≤ room) × (SoFar s part → SoFar s′ part′)
+
+-- What follows a test may rest on it.
+module _ (s : Sheet) (part room : ℕ) where
+  require-fits : (b : Bool) (number : ℕ) (r : Read) → StopNumber number → (b ≡ true → Fit s part room r) → Fit s part room (require b number r)
+  unfolding require
+  require-fits true number r n f = f refl
+  require-fits false number r n f = n
+
+  require-rule-fits : (a : ℕ) (p : List ℕ) (w : Whole) (r : Read) → readWhole (ruleScope s) p ≡ w → (Gives s a (piece-of p) → Reads s (piece-of p) → Fit s part room r)
+      → Fit s part room (requireRule s a w r)
+  unfolding requireRule ruleScope definitionExpr wholeExpr
+  require-rule-fits a p no-expression r e f = omega arith
+  require-rule-fits a p (expression x) r e f =
+      require-fits _ 7 r (omega arith) λ t. f (rw (e, wholeExpr) (read-in (ruleScope s) _ _ p x _ refl e (hasType-sound _ _ _ x t))) (x, e)
+
+  require-both-fits : (a b : Bool) (number : ℕ) (r : Read) → StopNumber number → (a ≡ true → b ≡ true → Fit s part room r)
+      → Fit s part room (require (a && b) number r)
+  require-both-fits a b number r n f = require-fits (a && b) number r n λ e. let t = and-eq-true-iff a b .0 e in f (t .0) (t .1)
+
+-- the tests as facts, for `omega`
+ruleset tests = (leb-true, ltb-true)
+
+attribute-fits : (s : Sheet) (part : ℕ) (l : List ℕ) → Fit s part (suc (length l)) (readAttribute s part l)
+unfolding readAttribute
+attribute-fits s part l =
+    require-both-fits s part _ (leb part 0) (leb 2 (length l)) 2 _ (omega arith) λ first long.
+    require-fits s part _ (ltb (attributeCount s) 32) 3 _ (omega arith) λ room.
+    require-fits s part _ _ 4 _ (omega arith) λ types. (
+      omega arith,
+      omega (arith, tests),
+      λ h. record {
+        nodes-bound = h .nodes-bound;
+        attributes-bound = rw length-append (omega (arith, tests));
+        no-figures = λ p. h .no-figures (omega (arith, tests));
+        no-rules = λ p. h .no-rules (omega (arith, tests));
+        figures-give = rw (h .no-figures (omega (arith, tests))) all-none;
+        rules-give = rw (h .no-rules (omega (arith, tests))) all-none;
+        rules-read = rw (h .no-rules (omega (arith, tests))) all-none;
+      },
+    )
+
+node-fits : (s : Sheet) (part : ℕ) (l : List ℕ) → Fit s part (suc (length l)) (readNode s part l)
+unfolding readNode
+node-fits s part l =
+    require-both-fits s part _ (leb part 1) (leb 1 (length l)) 2 _ (omega arith) λ early long.
+    require-fits s part _ (ltb (nodeCount s) 1024) 3 _ (omega arith) λ room.
+    require-fits s part _ _ 4 _ (omega arith) λ kind. (
+      omega arith,
+      omega (arith, tests),
+      λ h. record {
+        nodes-bound = rw length-append (omega (arith, tests));
+        attributes-bound = h .attributes-bound;
+        no-figures = λ p. h .no-figures (omega (arith, tests));
+        no-rules = λ p. h .no-rules (omega (arith, tests));
+        figures-give = rw (h .no-figures (omega (arith, tests))) all-none;
+        rules-give = rw (h .no-rules (omega (arith, tests))) all-none;
+        rules-read = rw (h .no-rules (omega (arith, tests))) all-none;
+      },
+    )
+
+figure-fits : (s : Sheet) (part : ℕ) (l : List ℕ) → Fit s part (suc (length l)) (readFigure s part l)
+unfolding readFigure ruleScope definitionExpr
+figure-fits s part l =
+    let n = ofBytes (take 2 l) in
+    let a = getD l 2 0 in
+    let w = ofBytes (take 4 (drop 3 l)) in
+    let t = attributeAt (s .attributes) a .result in
+    require-both-fits s part _ (leb part 2) (leb 7 (length l)) 2 _ (omega arith) λ early long.
+    require-both-fits s part _ (ltb n (nodeCount s) && ltb a (attributeCount s)) (isWord (nodeCount s) t w) 4 _ (omega arith) λ declared word.
+    require-fits s part _ _ 5 _ (omega arith) λ new. (
+      omega arith,
+      omega (arith, tests),
+      λ h. record {
+        nodes-bound = h .nodes-bound;
+        attributes-bound = h .attributes-bound;
+        no-figures = λ p. absurd (omega arith);
+        no-rules = λ p. absurd (omega arith);
+        figures-give = all-cons (literal∈ (word-in (nodeCount s) t w word)) (h .figures-give);
+        rules-give = h .rules-give;
+        rules-read = h .rules-read;
+      },
+    )
+
+rule-fits : (s : Sheet) (part : ℕ) (l : List ℕ) → Fit s part (suc (length l)) (readRule s part l)
+unfolding readRule ruleScope definitionExpr
+rule-fits s part l =
+    let n = ofBytes (take 2 (drop 2 l)) in
+    require-both-fits s part _ (leb part 3 && leb (4 + n) (length l)) (leb 4 (length l)) 2 _ (omega arith) λ fit long.
+    require-fits s part _ _ 4 _ (omega arith) λ declared.
+    require-fits s part _ _ 5 _ (omega arith) λ new.
+    require-rule-fits s part _ _ _ _ _ refl λ gives reads.
+    let fits : 4 + n ≤ length l = leb-true (4 + n) (length l) (and-eq-true-iff (leb part 3) (leb (4 + n) (length l)) .0 fit .1) in (
+      omega arith,
+      omega arith,
+      λ h. record {
+        nodes-bound = h .nodes-bound;
+        attributes-bound = h .attributes-bound;
+        no-figures = λ p. absurd (omega arith);
+        no-rules = λ p. absurd (omega arith);
+        figures-give = h .figures-give;
+        rules-give = all-cons gives (h .rules-give);
+        rules-read = all-cons reads (h .rules-read);
+      },
+    )
+
+end-fits : (s : Sheet) (part : ℕ) (l : List ℕ) → Fit s part (suc (length l)) (readEnd l)
+unfolding readEnd
+end-fits s part [] = tt
+end-fits s part (b ∷ l) = omega arith
+
+command-fits : (s : Sheet) (part : ℕ) (c : Command) (l : List ℕ) → Fit s part (suc (length l)) (readCommand s part c l)
+unfolding readCommand
+command-fits s part attribute-command l = attribute-fits s part l
+command-fits s part node-command l = node-fits s part l
+command-fits s part figure-command l = figure-fits s part l
+command-fits s part rule-command l = rule-fits s part l
+command-fits s part end-command l = end-fits s part l
+command-fits s part no-command l = omega arith
+
+next-fits : (s : Sheet) (part : ℕ) (l : List ℕ) → Fit s part (length l) (readNext s part l)
+unfolding readNext
+next-fits s part [] = omega arith
+next-fits s part (c ∷ l) = command-fits s part (commandOf c) l
+
+-- ---- The bound on the commands is never reached
+
+pub commands-fuel : (k j : ℕ) (s : Sheet) (part at : ℕ) (l : List ℕ) → length l < k → length l < j → readCommands k s part at l ≡ readCommands j s part at l
+unfolding readCommands
+commands-fuel zero j s part at l p q = absurd (omega arith)
+commands-fuel (suc k) zero s part at l p q = absurd (omega arith)
+commands-fuel (suc k) (suc j) s part at l p q = go (commands-fuel k j) (readNext s part l) refl (next-fits s part l)
+  where
+    go : ((s′ : Sheet) (part′ at′ : ℕ) (l′ : List ℕ) → length l′ < k → length l′ < j → readCommands k s′ part′ at′ l′ ≡ readCommands j s′ part′ at′ l′)
+        → (r : Read) → readNext s part l ≡ r → Fit s part (length l) r → readCommands (suc k) s part at l ≡ readCommands (suc j) s part at l
+    go ih (stops number offset) e f = rw (e, readCommands)
+    go ih ends e f = rw (e, readCommands)
+    go ih (goes-on width part′ s′) e f =
+        rw (e, readCommands) (ih s′ part′ (at + width) (drop width l) (rw length-drop (omega arith)) (rw length-drop (omega arith)))
+
+-- ---- The definition in force
+
+-- whatever a look-up finds
+abbrev Found : {A : Type 0} → (A → Type 0) → Option A → Type 0
+Found P none = Unit {0}
+Found P (some x) = P x
+
+found : {A : Type 0} (P : ℕ → A → Type 0) (m n b a : ℕ) (x : A) (o : Option A) → P b x → Found (P a) o
+    → Found (P a) (cond (eqb m n && eqb b a) (some x) o)
+found P m n b a x o h rest = go (eqb m n && eqb b a) refl
+  where
+    go : (t : Bool) → (eqb m n && eqb b a) ≡ t → Found (P a) (cond t (some x) o)
+    go true e = rw (eqb-true b a (and-eq-true-iff (eqb m n) (eqb b a) .0 e .1)) at h
+    go false e = rest
+
+-- What each figure and each rule gives its attribute, the definition in force gives the attribute `a`.
+module _ (P : ℕ → Definition → Type 0) (a : ℕ) where
+  figure-found : (n : ℕ) (l : List Figure) → All (λ f. P (f .attribute) (figure (f .value))) l → Found (λ v. P a (figure v)) (figureFor l n a)
+  unfolding figureFor
+  figure-found n [] all-none = tt
+  figure-found n (f ∷ l) (all-cons h t) = found (λ b v. P b (figure v)) (f .node) n (f .attribute) a (f .value) _ h (figure-found n l t)
+
+  rule-found : (k : ℕ) (l : List Rule) → All (λ r. P (r .attribute) (piece-of (r .piece))) l → Found (λ p. P a (piece-of p)) (ruleFor l k a)
+  unfolding ruleFor
+  rule-found k [] all-none = tt
+  rule-found k (r ∷ l) (all-cons h t) = found (λ b p. P b (piece-of p)) (r .kind) k (r .attribute) a (r .piece) _ h (rule-found k l t)
+
+  in-force : (f : Option Value) (r : Option (List ℕ)) → Found (λ v. P a (figure v)) f → Found (λ p. P a (piece-of p)) r
+      → isDefined (figured f (ruled r)) ≡ true → P a (figured f (ruled r))
+  unfolding figured ruled isDefined
+  in-force (some v) r g h d = g
+  in-force none (some p) g h d = h
+  in-force none none g h d = absurd (false≢true d)
+
+-- Where the check finds no gap, every declared pair is defined.
+attribute-defined : (s : Sheet) (k n a i : ℕ) → gapAt s k n a ≡ none → a ≤ i → i < a + k → isDefined (definition s n i) ≡ true
+unfolding gapAt
+attribute-defined s zero n a i e p q = absurd (omega arith)
+attribute-defined s (suc k) n a i e p q = go (isDefined (definition s n a)) refl (eq-or-lt-of-le p) (attribute-defined s k n (suc a) i)
+  where
+    go : (b : Bool) → isDefined (definition s n a) ≡ b → (a ≡ i) ⊎ (a < i)
+        → (gapAt s k n (suc a) ≡ none → suc a ≤ i → i < suc a + k → isDefined (definition s n i) ≡ true) → isDefined (definition s n i) ≡ true
+    go true d (inl same) rest = cc
+    go true d (inr later) rest = rest (cc) later (omega arith)
+    go false d c rest = cc
+
+node-complete : (s : Sheet) (k n m : ℕ) → gapFrom s k n ≡ none → n ≤ m → m < n + k → gapAt s (attributeCount s) m 0 ≡ none
+unfolding gapFrom
+node-complete s zero n m e p q = absurd (omega arith)
+node-complete s (suc k) n m e p q = go (gapAt s (attributeCount s) n 0) refl (eq-or-lt-of-le p) (node-complete s k (suc n) m)
+  where
+    go : (o : Option ℕ) → gapAt s (attributeCount s) n 0 ≡ o → (n ≡ m) ⊎ (n < m)
+        → (gapFrom s k (suc n) ≡ none → suc n ≤ m → m < suc n + k → gapAt s (attributeCount s) m 0 ≡ none) → gapAt s (attributeCount s) m 0 ≡ none
+    go none d (inl same) rest = cc
+    go none d (inr later) rest = rest (cc) later (omega arith)
+    go (some place) d c rest = cc
+
+-- ---- The verdict
+
+abbrev Verdict : Checked Sheet → Type 0
+Verdict (refused number place) = StopNumber number
+Verdict (accepted s) =
+    AcceptedSheet s × ((k a : ℕ) → Found (λ p. Reads s (piece-of p)) (ruleFor (s .rules) k a))
+    × ((n a : ℕ) → n < nodeCount s → a < attributeCount s → isDefined (definition s n a) ≡ true)
+
+no-gap : (s : Sheet) → gapFrom s (nodeCount s) 0 ≡ none → (n a : ℕ) → n < nodeCount s → a < attributeCount s → isDefined (definition s n a) ≡ true
+no-gap s e n a p q =
+    attribute-defined s (attributeCount s) n 0 a (node-complete s (nodeCount s) 0 n e (omega arith) (omega arith)) (omega arith) (omega arith)
+
+complete-verdict : (s : Sheet) (part : ℕ) (o : Option ℕ) → gapFrom s (nodeCount s) 0 ≡ o → SoFar s part → Verdict (complete s o)
+unfolding complete ruleScope context definition
+complete-verdict s part (some place) e h = omega arith
+complete-verdict s part none e h = (
+  record {
+    nodes-bound = h .nodes-bound;
+    attributes-bound = h .attributes-bound;
+    context-in = record {
+      scope = ruleScope s;
+      same-nodes = refl;
+      defines = λ n a p q. in-force (Gives s) a _ _ (figure-found (Gives s) a n (s .figures) (h .figures-give)) (rule-found (Gives s) a _ (s .rules) (h .rules-give))
+          (no-gap s e n a p q);
+    };
+  },
+  λ k a. rule-found (λ b d. Reads s d) a k (s .rules) (h .rules-read),
+  no-gap s e,
+)
+
+commands-verdict : (k : ℕ) (s : Sheet) (part at : ℕ) (l : List ℕ) → SoFar s part → Verdict (readCommands k s part at l)
+unfolding readCommands
+commands-verdict zero s part at l h = omega arith
+commands-verdict (suc k) s part at l h = go (commands-verdict k) (readNext s part l) refl (next-fits s part l)
+  where
+    go : ((s′ : Sheet) (part′ at′ : ℕ) (l′ : List ℕ) → SoFar s′ part′ → Verdict (readCommands k s′ part′ at′ l′))
+        → (r : Read) → readNext s part l ≡ r → Fit s part (length l) r → Verdict (readCommands (suc k) s part at l)
+    go ih (stops number offset) e f = rw (e, readCommands) f
+    go ih ends e f = rw (e, readCommands) (complete-verdict s part _ refl h)
+    go ih (goes-on width part′ s′) e f = rw (e, readCommands) (ih s′ part′ (at + width) (drop width l) (f .2 h))
+
+sheet-verdict : (bytes : List ℕ) → Verdict (checkSheet bytes)
+unfolding checkSheet
+sheet-verdict bytes = go (leb (length bytes) 65536)
+  where
+    go : (b : Bool) → Verdict (cond b (readCommands (suc (length bytes)) emptySheet 0 0 bytes) (refused 1 0))
+    go true = commands-verdict (suc (length bytes)) emptySheet 0 0 bytes
+        (record { nodes-bound = omega arith; attributes-bound = omega arith; no-figures = λ p. refl; no-rules = λ p. refl; figures-give = all-none; rules-give = all-none; rules-read = all-none })
+    go false = omega arith
+
+pub accepted-sheet : (bytes : List ℕ) (s : Sheet) → checkSheet bytes ≡ accepted s → AcceptedSheet s
+accepted-sheet bytes s e = subst Verdict e (sheet-verdict bytes) .0
+
+-- every rule of an accepted sheet is one expression
+pub rule-reads : (bytes : List ℕ) (s : Sheet) → checkSheet bytes ≡ accepted s → (k a : ℕ) (p : List ℕ) → ruleFor (s .rules) k a ≡ some p
+    → (e : Expr) × (readWhole (ruleScope s) p ≡ expression e)
+rule-reads bytes s e k a p f = subst (Found (λ p. Reads s (piece-of p))) f (subst Verdict e (sheet-verdict bytes) .1 k a)
+
+-- an accepted sheet defines every declared pair
+pub pair-defined : (bytes : List ℕ) (s : Sheet) → checkSheet bytes ≡ accepted s → (n a : ℕ) → n < nodeCount s → a < attributeCount s
+    → isDefined (definition s n a) ≡ true
+pair-defined bytes s e = subst Verdict e (sheet-verdict bytes) .2
+
+pub refused-numbers : (bytes : List ℕ) (number place : ℕ) → checkSheet bytes ≡ refused number place → (1 ≤ number) × (number ≤ 8)
+refused-numbers bytes number place e = subst Verdict e (sheet-verdict bytes)

@@ -1,0 +1,240 @@
+-- Question calls on an accepted sheet, by the parts of their definition.
+use mathlib.Core.Bool.{Bool, true, false, false≢true}
+use mathlib.Core.Bool as Bool
+use mathlib.Core.List.{List, _++_}
+use mathlib.Core.Option.{Option, none, some}
+use mathlib.Core.Path.{_≡_, refl, sym, _∙_, ap}
+use Prim.Native.Nat.{ℕ, suc, _*_, _≤_, _<_, zero-le}
+use native.Mathlib.Omega.{arith}
+use borrow.Author.Tests.{le-leb, lt-leb, leb-true, leb-false}
+use lib.Dec.{leb}
+use lib.ListN.{length}
+use Rattle.saiga.specs.Values.{Base, Ty, base, _⇒_, unit, unitT}
+use Rattle.saiga.specs.Expressions.{Expr, Whole, no-expression, expression, readWhole}
+use Rattle.saiga.specs.Types.{infer}
+use Rattle.saiga.specs.Sheet.{Sheet, Checked, refused, accepted, checkSheet, context, questionScope, nodeCount}
+use Rattle.saiga.specs.Plain.{plainAt}
+use Rattle.saiga.specs.Caching.{Entry, kept, spent, by, Ended, State}
+use Rattle.saiga.specs.Store.{capacity, checkStore, leftStore}
+use Rattle.saiga.specs.Ask.{refusal, ofBaseType, checkType, checkQuestion, asked, outcome, runQuestion, _then-check_, checkBudget, AcceptedCall, checkCall, answered, ask}
+use Rattle.saiga.specs.Calls.{Call, Lent, leaves, call}
+use Rattle.saiga.specs.Sound.{ExprIn, EntryIn, All}
+use Rattle.saiga.proofs.Reading.{read-in}
+use Rattle.saiga.proofs.Accepted.{accepted-sheet}
+use Rattle.saiga.proofs.Preservation.{put-in, EndedIn, run-in, all-right}
+use Rattle.saiga.proofs.Entries.{Appended, run-appends, store-in, left-passes, left-length}
+use Rattle.saiga.proofs.Erasure.{Right, faithful-put, erase-put}
+use Rattle.saiga.specs.Runs.{Runs}
+use Rattle.saiga.proofs.RunEnds.{measure, forms-put, run-ends, run-is}
+use Rattle.saiga.proofs.AgainstPlain.{Follows, follows, larger-budget}
+use Rattle.saiga.proofs.Endings.{kept-field, spent-number}
+
+-- ---- A question as it runs
+
+module _ (s : Sheet) (cap budget : ℕ) (entries : List Entry) (e : Expr) where
+  abbrev pub start : State
+  start = record { term = asked e; entries = entries; steps = 0 }
+
+  pub question-runs : Runs (context s) cap budget start (runQuestion s cap budget entries e)
+  unfolding runQuestion measure asked
+  question-runs =
+      run-ends (context s) cap budget (suc (2 * budget)) start
+      (let f = forms-put 0 unit e in omega arith)
+
+  pub question-is : {end : Ended} → Runs (context s) cap budget start end → runQuestion s cap budget entries e ≡ end
+  unfolding runQuestion measure asked
+  question-is r = run-is (context s) cap budget r (suc (2 * budget)) (let f = forms-put 0 unit e in omega arith)
+
+  -- what the question adds to the store
+  pub question-appends : Appended cap entries (runQuestion s cap budget entries e .entries)
+  unfolding runQuestion
+  question-appends = run-appends (context s) cap budget (suc (2 * budget)) start
+
+  -- what plain Saiga makes of the question
+  pub question-follows : Right (context s) entries
+      → Follows (context s) budget (asked e) (runQuestion s cap budget entries e .steps) (runQuestion s cap budget entries e .ending)
+  unfolding asked plainAt
+  question-follows right =
+      follows (context s) cap budget question-runs right (faithful-put (context s) 0 unit e) (asked e) 0
+      (ap some (sym (erase-put (context s) 0 unit e))) zero-le
+
+-- ---- The checks of a call
+
+-- What the checks of an accepted call found.
+pub record Passed (sheet store : List ℕ) (k : ℕ) (question : List ℕ) (budget : ℕ) (c : AcceptedCall) : Type 0 where
+  pub sheet-is : checkSheet sheet ≡ accepted (c .sheet)
+  pub entries-are : checkStore (c .sheet) store k ≡ accepted (c .entries)
+  pub permitted : budget ≤ 1000000
+  pub question-is : checkQuestion (c .sheet) question ≡ accepted (c .question)
+
+-- a chain that accepts has an accepting first check, and goes on with what it found
+then-accepted : {A B : Type 0} (C : Checked A) (next : A → Checked B) {y : B} → (C then-check next) ≡ accepted y
+    → (x : A) × (C ≡ accepted x) × (next x ≡ accepted y)
+unfolding _then-check_
+then-accepted (refused number place) next e = absurd (let z : _≡_ {A = ℕ} 0 1 = cc in omega arith)
+then-accepted (accepted x) next e = (x, refl, e)
+
+pub budget-permitted : (budget : ℕ) {u : Unit {0}} → checkBudget budget ≡ accepted u → budget ≤ 1000000
+unfolding checkBudget
+budget-permitted budget = go (leb budget 1000000) refl
+  where
+    go : (b : Bool) → leb budget 1000000 ≡ b → {u : Unit {0}} → Bool.cond b (accepted tt) (refused 11 0) ≡ accepted u → budget ≤ 1000000
+    go true h e = leb-true budget 1000000 h
+    go false h e = absurd (let z : _≡_ {A = ℕ} 0 1 = cc in omega arith)
+
+pub passed : (sheet store : List ℕ) (k : ℕ) (question : List ℕ) (budget : ℕ) {c : AcceptedCall} → checkCall sheet store k question budget ≡ accepted c
+    → Passed sheet store k question budget c
+unfolding checkCall
+passed sheet store k question budget {c} e =
+    let (s, is-sheet, after-sheet) = then-accepted (checkSheet sheet) _ e in
+    let (entries, is-store, after-store) = then-accepted (checkStore s store k) _ after-sheet in
+    let (_, is-budget, after-budget) = then-accepted (checkBudget budget) _ after-store in
+    let (x, is-question, found) = then-accepted (checkQuestion s question) _ after-budget in
+    let call : AcceptedCall = record { sheet = s; entries = entries; question = x } in
+    let same : call ≡ c = cc in
+    let all : Passed sheet store k question budget call =
+    record { sheet-is = is-sheet; entries-are = is-store; permitted = budget-permitted budget is-budget; question-is = is-question } in
+    rw same at all
+
+-- An accepted call is answered by its run.
+pub ask-runs : (sheet store : List ℕ) (k : ℕ) (question : List ℕ) (budget : ℕ) {c : AcceptedCall} → checkCall sheet store k question budget ≡ accepted c
+    → ask sheet store k question budget ≡ outcome store k (runQuestion (c .sheet) (capacity store) budget (c .entries) (c .question))
+unfolding ask answered
+ask-runs sheet store k question budget e = rw e
+
+-- A refused one is a refusal.
+pub ask-refuses : (sheet store : List ℕ) (k : ℕ) (question : List ℕ) (budget : ℕ) {number place : ℕ}
+    → checkCall sheet store k question budget ≡ refused number place → ask sheet store k question budget ≡ refusal store k number place
+unfolding ask answered
+ask-refuses sheet store k question budget e = rw e
+
+-- ---- Calls
+
+module _ (sheet : List ℕ) (s : Sheet) (ok : checkSheet sheet ≡ accepted s) where
+  pub call-answered : (m : Lent) (entries : List Entry) (q : List ℕ) (budget : ℕ) (e : Expr) → checkStore s (m .store) (m .kept) ≡ accepted entries
+      → budget ≤ 1000000 → checkQuestion s q ≡ accepted e
+      → call sheet m record { question = q; budget = budget } ≡ outcome (m .store) (m .kept) (runQuestion s (capacity (m .store)) budget entries e)
+  unfolding call ask checkCall answered checkBudget _then-check_
+  call-answered m entries q budget e pass permitted form = rw (ok, pass, le-leb budget 1000000 permitted, form)
+
+  pub call-over : (m : Lent) (entries : List Entry) (q : List ℕ) (budget : ℕ) → checkStore s (m .store) (m .kept) ≡ accepted entries
+      → 1000000 < budget → call sheet m record { question = q; budget = budget } ≡ refusal (m .store) (m .kept) 11 0
+  unfolding call ask checkCall answered checkBudget _then-check_
+  call-over m entries q budget pass over = rw (ok, pass, lt-leb budget 1000000 over)
+
+  pub call-malformed : (m : Lent) (entries : List Entry) (q : List ℕ) (budget number place : ℕ) → checkStore s (m .store) (m .kept) ≡ accepted entries
+      → budget ≤ 1000000 → checkQuestion s q ≡ refused number place
+      → call sheet m record { question = q; budget = budget } ≡ refusal (m .store) (m .kept) number place
+  unfolding call ask checkCall answered checkBudget _then-check_
+  call-malformed m entries q budget number place pass permitted form = rw (ok, pass, le-leb budget 1000000 permitted, form)
+
+  call-refused : (m : Lent) (q : List ℕ) (budget number place : ℕ) → checkStore s (m .store) (m .kept) ≡ refused number place
+      → call sheet m record { question = q; budget = budget } ≡ refusal (m .store) (m .kept) number place
+  unfolding call ask checkCall answered checkBudget _then-check_
+  call-refused m q budget number place pass = rw (ok, pass)
+
+  -- ---- Larger budgets
+
+  module _ (lent : Lent) (q : List ℕ) (b b′ : ℕ) (more : b ≤ b′) (permitted : b′ ≤ 1000000) where
+    budget-run : (entries : List Entry) (e : Expr) → (runQuestion s (capacity (lent .store)) b entries e .ending ≡ by spent → ⊥)
+        → runQuestion s (capacity (lent .store)) b′ entries e ≡ runQuestion s (capacity (lent .store)) b entries e
+    budget-run entries e n =
+        question-is s (capacity (lent .store)) b′ entries e
+        (larger-budget (context s) (capacity (lent .store)) b b′ more (question-runs s (capacity (lent .store)) b entries e) n)
+
+    pub budgets-agree : (call sheet lent record { question = q; budget = b } .answer .number ≡ 15 → ⊥)
+        → call sheet lent record { question = q; budget = b′ } ≡ call sheet lent record { question = q; budget = b }
+    unfolding outcome
+    budgets-agree n = stored (checkStore s (lent .store) (lent .kept)) refl
+      where
+        asked-of : (entries : List Entry) → checkStore s (lent .store) (lent .kept) ≡ accepted entries → (c : Checked Expr) → checkQuestion s q ≡ c
+            → call sheet lent record { question = q; budget = b′ } ≡ call sheet lent record { question = q; budget = b }
+        asked-of entries pass (refused number place) form =
+            call-malformed lent entries q b′ number place pass permitted form ∙ sym (call-malformed lent entries q b number place pass (omega (arith, more, permitted)) form)
+        asked-of entries pass (accepted e) form =
+            let small = call-answered lent entries q b e pass (omega (arith, more, permitted)) form in
+            call-answered lent entries q b′ e pass permitted form
+            ∙ ap (outcome (lent .store) (lent .kept)) (budget-run entries e (λ h. n (ap (λ o. o .answer .number) small ∙ spent-number _ _ _ h)))
+            ∙ sym small
+
+        stored : (c : Checked (List Entry)) → checkStore s (lent .store) (lent .kept) ≡ c
+            → call sheet lent record { question = q; budget = b′ } ≡ call sheet lent record { question = q; budget = b }
+        stored (refused number place) pass = call-refused lent q b′ number place pass ∙ sym (call-refused lent q b number place pass)
+        stored (accepted entries) pass = asked-of entries pass (checkQuestion s q) refl
+
+  -- ---- Types
+
+  -- An accepted question is an expression of a base type, and so is all that it keeps and ends with.
+  pub question-in : (q : List ℕ) (e : Expr) → checkQuestion s q ≡ accepted e → (B : Base) × ExprIn (questionScope s) (s .attributes) unitT e (base B)
+  unfolding checkQuestion checkType ofBaseType questionScope
+  question-in q e h = whole (readWhole (questionScope s) q) refl h
+    where
+      typed : (f : Expr) → readWhole (questionScope s) q ≡ expression f → (T : Option Ty) → infer (s .attributes) unitT f ≡ T → ofBaseType T f ≡ accepted e
+          → (B : Base) × ExprIn (questionScope s) (s .attributes) unitT e (base B)
+      typed f w none t h = absurd (let z : _≡_ {A = ℕ} 0 1 = cc in omega arith)
+      typed f w (some (base B)) t h =
+          let same : f ≡ e = cc in
+          (B, rw (← same) (read-in (questionScope s) (s .attributes) unitT q f (base B) refl w t))
+      typed f w (some (B ⇒ T)) t h = absurd (let z : _≡_ {A = ℕ} 0 1 = cc in omega arith)
+
+      whole : (w : Whole) → readWhole (questionScope s) q ≡ w → checkType s w ≡ accepted e → (B : Base) × ExprIn (questionScope s) (s .attributes) unitT e (base B)
+      whole no-expression w h = absurd (let z : _≡_ {A = ℕ} 0 1 = cc in omega arith)
+      whole (expression f) w h = typed f w (infer (s .attributes) unitT f) refl h
+
+  pub question-typed : (q : List ℕ) (cap budget : ℕ) (entries : List Entry) (e : Expr) → checkQuestion s q ≡ accepted e
+      → All (EntryIn (nodeCount s) (s .attributes)) entries
+      → (B : Base) × EndedIn (nodeCount s) (s .attributes) (base B) (runQuestion s cap budget entries e)
+  unfolding runQuestion asked questionScope
+  question-typed q cap budget entries e h typed =
+      let t = question-in q e h in
+      (t .0, run-in (nodeCount s) (s .attributes) (context s) (accepted-sheet sheet s ok .context-in) cap budget (base (t .0)) _ _ typed (put-in 0 unit (λ n. absurd (false≢true n)) (λ n. absurd (false≢true n)) (t .1)))
+
+  -- ---- What a call leaves
+
+  -- A store that passes the checks with these entries.
+  abbrev pub Passes : Lent → List Entry → Type 0
+  Passes m entries = checkStore s (m .store) (m .kept) ≡ accepted entries
+
+  left-in : (m : Lent) (entries after : List Entry) → Passes m entries → Appended (capacity (m .store)) entries after
+      → All (EntryIn (nodeCount s) (s .attributes)) after
+      → (checkStore s (leftStore (m .store) (m .kept) after) (length after) ≡ accepted after) × (length (leftStore (m .store) (m .kept) after) ≡ length (m .store))
+  left-in m entries after pass a t =
+      let p = store-in s (m .store) (m .kept) entries pass in
+      let fits : length entries ≤ capacity (m .store) = rw (p .count) (p .fits) in
+      let room : length (entries ++ a .new) ≤ capacity (m .store) = rw (a .appended) at (a .room fits) in
+      rw (a .appended)
+      (left-passes s (accepted-sheet sheet s ok .nodes-bound) (m .store) (m .kept) entries (a .new) pass (all-right entries (rw (a .appended) at t)) (a .fresh) room, left-length (m .store) (m .kept) entries (a .new) (p .count) room)
+
+  module _ (m : Lent) (entries : List Entry) (pass : Passes m entries) where
+    -- what an accepted question leaves passes the checks of the next call, and has the same capacity
+    pub question-leaves : (q : List ℕ) (budget : ℕ) (e : Expr) → budget ≤ 1000000 → checkQuestion s q ≡ accepted e
+        → let after = leaves (call sheet m record { question = q; budget = budget }) in
+        Passes after (runQuestion s (capacity (m .store)) budget entries e .entries) × (length (after .store) ≡ length (m .store))
+    question-leaves q budget e permitted form =
+        let k = capacity (m .store) in
+        let typed = question-typed q k budget entries e form (store-in s (m .store) (m .kept) entries pass .entries-in) .1 .entries-in in
+        let left = left-in m entries (runQuestion s k budget entries e .entries) pass (question-appends s k budget entries e) typed in
+        rw (call-answered m entries q budget e pass permitted form) (unfold leaves outcome in rw kept-field left)
+
+    -- A call leaves the store as lent, or it is an accepted question with a permitted budget.
+    pub call-cases : (P : Lent → Type 0) (c : Call) → P m
+        → ((e : Expr) → c .budget ≤ 1000000 → checkQuestion s (c .question) ≡ accepted e → P (leaves (call sheet m c))) → P (leaves (call sheet m c))
+    call-cases P c lent answered = budgeted (leb (c .budget) 1000000) refl
+      where
+        as-lent : (number place : ℕ) → call sheet m c ≡ refusal (m .store) (m .kept) number place → P (leaves (call sheet m c))
+        as-lent number place e = rw e (unfold refusal leaves in lent)
+
+        formed : c .budget ≤ 1000000 → (d : Checked Expr) → checkQuestion s (c .question) ≡ d → P (leaves (call sheet m c))
+        formed permitted (refused number place) form =
+            as-lent number place (call-malformed m entries (c .question) (c .budget) number place pass permitted form)
+        formed permitted (accepted e) form = answered e permitted form
+
+        budgeted : (b : Bool) → leb (c .budget) 1000000 ≡ b → P (leaves (call sheet m c))
+        budgeted true p = formed (leb-true (c .budget) 1000000 p) (checkQuestion s (c .question)) refl
+        budgeted false p = as-lent 11 0 (call-over m entries (c .question) (c .budget) pass (leb-false (c .budget) 1000000 p))
+
+    -- A store left by a call passes the checks of the next, whatever its values are.
+    pub left-store-passes : (c : Call) → (after : List Entry) × Passes (leaves (call sheet m c)) after
+    left-store-passes c =
+        call-cases (λ l. (after : List Entry) × Passes l after) c (entries, pass)
+        (λ e permitted form. (_, question-leaves (c .question) (c .budget) e permitted form .0))

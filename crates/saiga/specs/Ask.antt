@@ -1,0 +1,115 @@
+-- A question call on bytes (document 01, "Stops by origin" and "Contracts").
+use mathlib.Core.Bool.{cond}
+use mathlib.Core.Option.{Option, none, some}
+use mathlib.Core.List.{List}
+use Prim.Native.Nat.{ℕ, suc, _*_}
+use lib.Dec.{leb}
+use lib.ListN.{length}
+use lib.IntN.{ℤ, pos}
+use Rattle.saiga.specs.Values.{unitT, Ty, base, _⇒_, unit, typeCode, decimal}
+use Rattle.saiga.specs.Expressions.{Expr, Whole, no-expression, expression, readWhole}
+use Rattle.saiga.specs.Types.{infer}
+use Rattle.saiga.specs.Sheet.{Sheet, Checked, refused, accepted, checkSheet, questionScope, context}
+use Rattle.saiga.specs.Terms.{Term, put}
+use Rattle.saiga.specs.Caching.{Entry, Reason, null-node, spent, depth, Ending, with-value, by, Ended, run}
+use Rattle.saiga.specs.Store.{capacity, checkStore, leftStore}
+
+-- "An answer has number (0 for a value), place, type, value, steps, kept."
+pub record Answer : Type 0 where
+  pub number : ℕ
+  pub place : ℕ
+  pub type : ℕ
+  pub value : ℤ
+  pub steps : ℕ
+  pub kept : ℕ
+
+-- What a call brings: its answer and every byte of the store.
+pub record Outcome : Type 0 where
+  pub answer : Answer
+  pub store : List ℕ
+
+-- "Under 1 to 13 steps are 0 and kept and store are as lent."
+unfoldable pub refusal : List ℕ → ℕ → ℕ → ℕ → Outcome
+refusal store k number place =
+    record {
+      answer = record { number = number; place = place; type = 0; value = pos 0; steps = 0; kept = k };
+      store = store;
+    }
+
+-- "12 question not of its form. 13 question not of base type."
+unfoldable pub ofBaseType : Option Ty → Expr → Checked Expr
+ofBaseType none e = refused 13 0
+ofBaseType (some (base B)) e = accepted e
+ofBaseType (some (B ⇒ T)) e = refused 13 0
+
+unfoldable pub checkType : Sheet → Whole → Checked Expr
+checkType s no-expression = refused 12 0
+checkType s (expression e) = ofBaseType (infer (s .attributes) unitT e) e
+
+unfoldable pub checkQuestion : Sheet → List ℕ → Checked Expr
+checkQuestion s question = checkType s (readWhole (questionScope s) question)
+
+-- The question as it runs. It has neither 0x30 nor 0x31, so what is put for them is never used.
+unfoldable pub asked : {F : Type 0} → Expr → Term F
+asked e = put 0 unit e
+
+unfoldable pub reasonNumber : Reason → ℕ
+reasonNumber null-node = 14
+reasonNumber spent = 15
+reasonNumber depth = 16
+
+-- "Under any stop type and value are 0."
+unfoldable pub endedAnswer : Ending → ℕ → ℕ → Answer
+endedAnswer (with-value v) steps k =
+    record { number = 0; place = 0; type = typeCode v; value = decimal v; steps = steps; kept = k }
+endedAnswer (by reason) steps k =
+    record { number = reasonNumber reason; place = 0; type = 0; value = pos 0; steps = steps; kept = k }
+
+unfoldable pub outcome : List ℕ → ℕ → Ended → Outcome
+outcome store k end =
+    record {
+      answer = endedAnswer (end .ending) (end .steps) (length (end .entries));
+      store = leftStore store k (end .entries);
+    }
+
+unfoldable pub runQuestion : Sheet → ℕ → ℕ → List Entry → Expr → Ended
+runQuestion s capacity budget entries e =
+    run (context s) capacity budget (suc (2 * budget)) record { term = asked e; entries = entries; steps = 0 }
+
+-- ---- The checks of a call
+
+-- One check after another: the first that refuses is the call's.
+infixr 20 _then-check_
+unfoldable pub _then-check_ : {A B : Type 0} → Checked A → (A → Checked B) → Checked B
+(refused number place) then-check next = refused number place
+(accepted x) then-check next = next x
+
+-- "11 budget above 1,000,000."
+unfoldable pub checkBudget : ℕ → Checked (Unit {0})
+checkBudget budget = cond (leb budget 1000000) (accepted tt) (refused 11 0)
+
+-- A call that no check refuses: what its sheet, its kept entries and its question say.
+pub record AcceptedCall : Type 0 where
+  pub sheet : Sheet
+  pub entries : List Entry
+  pub question : Expr
+
+-- "Order: 1, then commands from the front and in each command 2 to 7, then 8 to 13." The sheet's check makes 1 to 8, the store's 9 and 10.
+unfoldable pub checkCall : List ℕ → List ℕ → ℕ → List ℕ → ℕ → Checked AcceptedCall
+checkCall sheet store k question budget =
+    checkSheet sheet then-check λ s.
+    checkStore s store k then-check λ entries.
+    checkBudget budget then-check λ _.
+    checkQuestion s question then-check λ e.
+    accepted record { sheet = s; entries = entries; question = e }
+
+-- ---- The call
+
+-- A call that is refused, or that runs.
+unfoldable pub answered : List ℕ → ℕ → ℕ → Checked AcceptedCall → Outcome
+answered store k budget (refused number place) = refusal store k number place
+answered store k budget (accepted c) = outcome store k (runQuestion (c .sheet) (capacity store) budget (c .entries) (c .question))
+
+-- The call: the sheet, the store with its kept number, the question and the budget.
+unfoldable pub ask : List ℕ → List ℕ → ℕ → List ℕ → ℕ → Outcome
+ask sheet store k question budget = answered store k budget (checkCall sheet store k question budget)

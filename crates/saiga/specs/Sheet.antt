@@ -1,0 +1,254 @@
+-- A sheet read from bytes, stops 1 to 8, and the context σ (document 01, "The sheet" and "Stops by origin").
+use mathlib.Core.Bool.{Bool, true, false, _&&_, cond}
+use mathlib.Core.Option.{Option, none, some}
+use mathlib.Core.List.{List, [], _∷_, _++_}
+use Prim.Native.Nat.{ℕ, zero, suc, _+_, _*_}
+use lib.Dec.{leb, ltb, eqb}
+use lib.ListN.{length, take, drop, getD}
+use Rattle.saiga.specs.Values.{baseOf, base, Value, unit, ofBytes, isWord, ofWord}
+use Rattle.saiga.specs.Expressions.{Expr, literal, Scope, Whole, no-expression, expression, readWhole}
+use Rattle.saiga.specs.Types.{Attribute, attributeAt, hasType}
+
+-- ---- What a sheet says
+
+pub record Figure : Type 0 where
+  pub node : ℕ
+  pub attribute : ℕ
+  pub value : Value
+
+-- The rule's expression is kept as "a piece of the sheet's own bytes".
+pub record Rule : Type 0 where
+  pub kind : ℕ
+  pub attribute : ℕ
+  pub piece : List ℕ
+
+-- The attributes and the nodes' kinds in the order of their numbers, the figures and the rules.
+pub record Sheet : Type 0 where
+  pub attributes : List Attribute
+  pub kinds : List ℕ
+  pub figures : List Figure
+  pub rules : List Rule
+
+abbrev pub emptySheet : Sheet
+emptySheet = record { attributes = []; kinds = []; figures = []; rules = [] }
+
+abbrev pub nodeCount : Sheet → ℕ
+nodeCount s = length (s .kinds)
+
+abbrev pub attributeCount : Sheet → ℕ
+attributeCount s = length (s .attributes)
+
+unfoldable pub figureFor : List Figure → ℕ → ℕ → Option Value
+figureFor [] n a = none
+figureFor (f ∷ l) n a = cond (eqb (f .node) n && eqb (f .attribute) a) (some (f .value)) (figureFor l n a)
+
+unfoldable pub ruleFor : List Rule → ℕ → ℕ → Option (List ℕ)
+ruleFor [] k a = none
+ruleFor (r ∷ l) k a = cond (eqb (r .kind) k && eqb (r .attribute) a) (some (r .piece)) (ruleFor l k a)
+
+-- ---- The context
+
+-- Where a rule's expression and a question stand.
+unfoldable pub ruleScope : Sheet → Scope
+ruleScope s = record { nodes = nodeCount s; attributes = attributeCount s; has-this = true; has-parameter = true }
+
+unfoldable pub questionScope : Sheet → Scope
+questionScope s = record { nodes = nodeCount s; attributes = attributeCount s; has-this = false; has-parameter = false }
+
+-- The definition in force: "the figure for (n, a) if there is one, else the rule for n's kind and a".
+pub data Definition : Type 0 where
+  undefined : Definition
+  figure : Value → Definition
+  piece-of : List ℕ → Definition
+
+unfoldable pub ruled : Option (List ℕ) → Definition
+ruled none = undefined
+ruled (some p) = piece-of p
+
+unfoldable pub figured : Option Value → Definition → Definition
+figured none d = d
+figured (some v) d = figure v
+
+unfoldable pub definition : Sheet → ℕ → ℕ → Definition
+definition s n a = figured (figureFor (s .figures) n a) (ruled (ruleFor (s .rules) (getD (s .kinds) n 0) a))
+
+-- The expression of a definition. σ(n, a, v) is this one "with n and v put for 0x30 and 0x31" (Terms.antt). An accepted sheet
+-- defines every declared pair, so the cases that stand for nothing are never met there (Accepted.antt).
+unfoldable pub wholeExpr : Whole → Expr
+wholeExpr no-expression = literal unit
+wholeExpr (expression e) = e
+
+unfoldable pub definitionExpr : Sheet → Definition → Expr
+definitionExpr s undefined = literal unit
+definitionExpr s (figure v) = literal v
+definitionExpr s (piece-of p) = wholeExpr (readWhole (ruleScope s) p)
+
+unfoldable pub context : Sheet → ℕ → ℕ → Expr
+context s n a = definitionExpr s (definition s n a)
+
+-- ---- Commands
+
+-- "0x41 attribute, 0x4E node, 0x56 figure, 0x52 rule, 0x5A end"
+pub data Command : Type 0 where
+  attribute-command node-command figure-command rule-command end-command no-command : Command
+
+unfoldable pub commandOf : ℕ → Command
+commandOf c =
+    cond (eqb c 0x41) attribute-command
+    (cond (eqb c 0x4E) node-command
+    (cond (eqb c 0x56) figure-command
+    (cond (eqb c 0x52) rule-command
+    (cond (eqb c 0x5A) end-command no-command))))
+
+-- "in this order of kind": the part of the sheet that a command stands in
+abbrev pub attribute-part : ℕ
+attribute-part = 0
+
+abbrev pub node-part : ℕ
+node-part = 1
+
+abbrev pub figure-part : ℕ
+figure-part = 2
+
+abbrev pub rule-part : ℕ
+rule-part = 3
+
+-- What reading one command comes to: a stop at so many bytes past the command's offset; the end; or the sheet so far, with the
+-- command's width and its part.
+pub data Read : Type 0 where
+  stops : ℕ → ℕ → Read
+  ends : Read
+  goes-on : ℕ → ℕ → Sheet → Read
+
+-- the stop with this number, unless the test holds
+unfoldable pub require : Bool → ℕ → Read → Read
+require true number r = r
+require false number r = stops number 0
+
+-- Each of the five below has what follows the command's byte, `l`, and makes its tests in the order of the stops. All but `readEnd` have
+-- the part reached: the end may follow any part.
+
+unfoldable pub readAttribute : Sheet → ℕ → List ℕ → Read
+readAttribute s part l =
+    require (leb part attribute-part && leb 2 (length l)) 2
+    (require (ltb (attributeCount s) 32) 3
+    (require (ltb (getD l 0 0) 4 && ltb (getD l 1 0) 4) 4
+    (goes-on 3 attribute-part record {
+      attributes = s .attributes ++ record { result = baseOf (getD l 0 0); parameter-type = baseOf (getD l 1 0) } ∷ [];
+      kinds = s .kinds;
+      figures = s .figures;
+      rules = s .rules;
+    })))
+
+unfoldable pub readNode : Sheet → ℕ → List ℕ → Read
+readNode s part l =
+    require (leb part node-part && leb 1 (length l)) 2
+    (require (ltb (nodeCount s) 1024) 3
+    (require (leb (getD l 0 0) 15) 4
+    (goes-on 2 node-part record {
+      attributes = s .attributes;
+      kinds = s .kinds ++ getD l 0 0 ∷ [];
+      figures = s .figures;
+      rules = s .rules;
+    })))
+
+abbrev pub isNone : {A : Type 0} → Option A → Bool
+isNone none = true
+isNone (some x) = false
+
+unfoldable pub readFigure : Sheet → ℕ → List ℕ → Read
+readFigure s part l =
+    let n = ofBytes (take 2 l) in
+    let a = getD l 2 0 in
+    let w = ofBytes (take 4 (drop 3 l)) in
+    let t = attributeAt (s .attributes) a .result in
+    require (leb part figure-part && leb 7 (length l)) 2
+    (require (ltb n (nodeCount s) && ltb a (attributeCount s) && isWord (nodeCount s) t w) 4
+    (require (isNone (figureFor (s .figures) n a)) 5
+    (goes-on 8 figure-part record {
+      attributes = s .attributes;
+      kinds = s .kinds;
+      figures = record { node = n; attribute = a; value = ofWord t w } ∷ s .figures;
+      rules = s .rules;
+    })))
+
+-- stop 6 for a piece that is no expression, 7 for one that has not its attribute's type
+unfoldable pub requireRule : Sheet → ℕ → Whole → Read → Read
+requireRule s a no-expression r = stops 6 0
+requireRule s a (expression e) r =
+    let t = attributeAt (s .attributes) a in
+    require (hasType (s .attributes) (t .parameter-type) (base (t .result)) e) 7 r
+
+unfoldable pub readRule : Sheet → ℕ → List ℕ → Read
+readRule s part l =
+    let k = getD l 0 0 in
+    let a = getD l 1 0 in
+    let n = ofBytes (take 2 (drop 2 l)) in
+    let p = take n (drop 4 l) in
+    require (leb part rule-part && leb (4 + n) (length l) && leb 4 (length l)) 2
+    (require (leb k 15 && ltb a (attributeCount s)) 4
+    (require (isNone (ruleFor (s .rules) k a)) 5
+    (requireRule s a (readWhole (ruleScope s) p)
+    (goes-on (5 + n) rule-part record {
+      attributes = s .attributes;
+      kinds = s .kinds;
+      figures = s .figures;
+      rules = record { kind = k; attribute = a; piece = p } ∷ s .rules;
+    }))))
+
+-- "bytes after it" are stopped at the first of them
+unfoldable pub readEnd : List ℕ → Read
+readEnd [] = ends
+readEnd (b ∷ l) = stops 2 1
+
+unfoldable pub readCommand : Sheet → ℕ → Command → List ℕ → Read
+readCommand s part attribute-command l = readAttribute s part l
+readCommand s part node-command l = readNode s part l
+readCommand s part figure-command l = readFigure s part l
+readCommand s part rule-command l = readRule s part l
+readCommand s part end-command l = readEnd l
+readCommand s part no-command l = stops 2 0
+
+unfoldable pub readNext : Sheet → ℕ → List ℕ → Read
+readNext s part [] = stops 2 0
+readNext s part (c ∷ l) = readCommand s part (commandOf c) l
+
+-- ---- The check
+
+-- A refusal is a stop's number and its place.
+pub data Checked (A : Type 0) : Type 0 where
+  refused : ℕ → ℕ → Checked A
+  accepted : A → Checked A
+
+-- Stop 8: "node × 32 + attribute of the first pair by node then attribute". The first number counts what is left to look at.
+unfoldable pub isDefined : Definition → Bool
+isDefined undefined = false
+isDefined (figure v) = true
+isDefined (piece-of p) = true
+
+unfoldable pub gapAt : Sheet → ℕ → ℕ → ℕ → Option ℕ
+gapAt s zero n a = none
+gapAt s (suc k) n a = elim (isDefined (definition s n a)) [ true ↦ gapAt s k n (suc a) | false ↦ some (n * 32 + a) ]
+
+unfoldable pub gapFrom : Sheet → ℕ → ℕ → Option ℕ
+gapFrom s zero n = none
+gapFrom s (suc k) n = elim (gapAt s (attributeCount s) n 0) [ none ↦ gapFrom s k (suc n) | some place ↦ some place ]
+
+unfoldable pub complete : Sheet → Option ℕ → Checked Sheet
+complete s none = accepted s
+complete s (some place) = refused 8 place
+
+-- "Order: 1, then commands from the front and in each command 2 to 7, then 8". The commands from offset `at`, where the rest of the
+-- bytes is `l`. The first number bounds how many there are; the sheet's length and one more always suffices (Accepted.antt).
+unfoldable pub readCommands : ℕ → Sheet → ℕ → ℕ → List ℕ → Checked Sheet
+readCommands zero s part at l = refused 2 at
+readCommands (suc k) s part at l =
+    elim (readNext s part l) [
+      | stops number offset ↦ refused number (at + offset)
+      | ends ↦ complete s (gapFrom s (nodeCount s) 0)
+      | goes-on width part′ s′ ↦ readCommands k s′ part′ (at + width) (drop width l)
+    ]
+
+unfoldable pub checkSheet : List ℕ → Checked Sheet
+checkSheet bytes =
+    cond (leb (length bytes) 65536) (readCommands (suc (length bytes)) emptySheet attribute-part 0 bytes) (refused 1 0)

@@ -1,0 +1,67 @@
+-- The store in bytes, and stops 9 and 10 (document 01, "The steps" and "Stops by origin").
+use mathlib.Core.Bool.{Bool, true, false, not, _&&_, cond}
+use mathlib.Core.List.{List, [], _∷_, _++_}
+use Prim.Native.Nat.{ℕ, zero, suc, _*_, _/_, _%_}
+use lib.Dec.{leb, ltb, eqb}
+use lib.ListN.{length, take, drop, getD}
+use Rattle.saiga.specs.Values.{ofBytes, toBytes, isWord, ofWord, toWord}
+use Rattle.saiga.specs.Types.{attributeAt}
+use Rattle.saiga.specs.Sheet.{Sheet, nodeCount, attributeCount, Checked, refused, accepted}
+use Rattle.saiga.specs.Caching.{Entry, kept, isKept}
+
+-- "An entry is node (2), attribute (1), a zero byte, parameter (4), value (4)."
+unfoldable pub entryBytes : Entry → List ℕ
+entryBytes e =
+    toBytes 2 (e .occurrence .node)
+    ++ e .occurrence .attribute ∷ 0 ∷ toBytes 4 (toWord (e .occurrence .parameter))
+    ++ toBytes 4 (toWord (e .value))
+
+-- the entry that twelve bytes hold, by the types of its attribute
+unfoldable pub entryOf : Sheet → List ℕ → Entry
+entryOf s l =
+    let a = getD l 2 0 in
+    let t = attributeAt (s .attributes) a in
+    record {
+      occurrence = record { node = ofBytes (take 2 l); attribute = a; parameter = ofWord (t .parameter-type) (ofBytes (take 4 (drop 4 l))) };
+      value = ofWord (t .result) (ofBytes (take 4 (drop 8 l)));
+    }
+
+-- "10 a kept entry with undeclared node or attribute, nonzero fourth byte, bytes that are no value of the type, or an occurrence
+-- already kept before it": `before` are the entries before it.
+unfoldable pub isEntry : Sheet → List Entry → List ℕ → Bool
+isEntry s before l =
+    let a = getD l 2 0 in
+    let t = attributeAt (s .attributes) a in
+    ltb (ofBytes (take 2 l)) (nodeCount s) && ltb a (attributeCount s) && eqb (getD l 3 0) 0
+    && isWord (nodeCount s) (t .parameter-type) (ofBytes (take 4 (drop 4 l)))
+    && isWord (nodeCount s) (t .result) (ofBytes (take 4 (drop 8 l)))
+    && not (isKept (kept before (entryOf s l .occurrence)))
+
+-- The kept entries, the first number of them still to be read from `l`, those before them in `before`.
+unfoldable pub readEntries : Sheet → ℕ → List Entry → List ℕ → Checked (List Entry)
+readEntries s zero before l = accepted before
+readEntries s (suc k) before l =
+    elim (isEntry s before (take 12 l)) [
+      | true ↦ readEntries s k (before ++ entryOf s (take 12 l) ∷ []) (drop 12 l)
+      | false ↦ refused 10 (length before)
+    ]
+
+-- "capacity 0 to 1,024"
+abbrev pub capacity : List ℕ → ℕ
+capacity store = length store / 12
+
+-- "9 store length no multiple of 12 or over 12,288, or kept above capacity."
+unfoldable pub checkStore : Sheet → List ℕ → ℕ → Checked (List Entry)
+checkStore s store k =
+    cond (eqb (length store % 12) 0 && leb (length store) 12288 && leb k (capacity store))
+    (readEntries s k [] store)
+    (refused 9 0)
+
+-- The store that a call leaves: what it held, the figures finished, and "bytes past the kept entries stay".
+unfoldable pub entriesBytes : List Entry → List ℕ
+entriesBytes [] = []
+entriesBytes (e ∷ l) = entryBytes e ++ entriesBytes l
+
+unfoldable pub leftStore : List ℕ → ℕ → List Entry → List ℕ
+leftStore store k after =
+    take (12 * k) store ++ entriesBytes (drop k after) ++ drop (12 * length after) store

@@ -1,0 +1,293 @@
+-- The kept entries and their keys: the entry that a key finds keeps the value of its occurrence.
+use mathlib.Core.Bool.{Bool, true, false, not, _&&_, cond, and-eq-true-iff, and-true, true≢false}
+use mathlib.Core.List.{List, [], _∷_, _++_}
+use mathlib.Core.Option.{Option, none, some}
+use mathlib.Core.Path.{_≡_, refl, sym, _∙_, ap}
+use Prim.Native.Nat.{ℕ, zero, suc, _+_, _*_, _-_, _<_}
+use native.Mathlib.Nat.{zero-add, suc-add, add-comm, mul-suc}
+use native.Mathlib.Numerals.{add-one}
+use native.Mathlib.Omega.{arith}
+use lib.Dec.{eqb, ltb}
+use lib.ListN.{length, take, drop, getD, length-append}
+use lib.Seq.{drop-drop}
+use borrow.Author.Tests.{ltb-true, eqb-true, eqb-false, eq-eqb, not-true}
+use Rattle.saiga.specs.Values.{Base, isWord, ofWord}
+use Rattle.saiga.specs.declared.Value.{Value}
+use Rattle.saiga.specs.Types.{attributeAt}
+use Rattle.saiga.specs.Sheet.{Sheet, nodeCount, attributeCount, Checked, refused, accepted}
+use Rattle.saiga.specs.Terms.{Occurrence}
+use Rattle.saiga.specs.Caching.{Entry, sameOccurrence, kept, isKept}
+use Rattle.saiga.specs.Store.{entryOf, isEntry, readEntries, checkStore}
+use Rattle.saiga.specs.Sound.{OccurrenceIn}
+use Rattle.saiga.proofs.FourBytes.{word-trip, word-in, same-value-refl}
+use Rattle.saiga.proofs.Equality.{same-occurrence}
+use Rattle.saiga.proofs.Entries.{store-in}
+use Rattle.stores.specs.Keys.{Key, keyOf, sameKey, keyAt, findKey, entryAt, entriesIn, valueWord, keptAt}
+use Rattle.stores.proofs.Parts.{part-taken, part-at, byte-at}
+use Rattle.stores.proofs.Chains.{same-key, key-refl, found-below}
+
+-- ---- Reading entries
+
+andThen : Checked (List Entry) → (List Entry → Checked (List Entry)) → Checked (List Entry)
+andThen (refused number place) f = refused number place
+andThen (accepted es) f = f es
+
+module _ (s : Sheet) where
+  read-one : (k : ℕ) (before : List Entry) (l : List ℕ) → isEntry s before (take 12 l) ≡ true
+      → readEntries s (suc k) before l ≡ readEntries s k (before ++ entryOf s (take 12 l) ∷ []) (drop 12 l)
+  unfolding readEntries
+  read-one k before l e = rw (e, readEntries)
+
+  read-none : (k : ℕ) (before : List Entry) (l : List ℕ) → isEntry s before (take 12 l) ≡ false
+      → readEntries s (suc k) before l ≡ refused 10 (length before)
+  unfolding readEntries
+  read-none k before l e = rw (e, readEntries)
+
+  read-single : (before : List Entry) (l : List ℕ) → isEntry s before (take 12 l) ≡ true → readEntries s 1 before l ≡ accepted (before ++ entryOf s (take 12 l) ∷ [])
+  unfolding readEntries
+  read-single before l e = read-one 0 before l e
+
+  -- Some entries are read, and then the rest.
+  read-then : (k j : ℕ) (before : List Entry) (l : List ℕ)
+      → readEntries s (k + j) before l ≡ andThen (readEntries s k before l) (λ es. readEntries s j es (drop (12 * k) l))
+  read-then zero j before l = rw zero-add (unfold andThen readEntries in refl)
+  read-then (suc k) j before l = go (isEntry s before (take 12 l)) refl (read-then k j)
+    where
+      go : (b : Bool) → isEntry s before (take 12 l) ≡ b
+          → ((before : List Entry) (l : List ℕ) → readEntries s (k + j) before l ≡ andThen (readEntries s k before l) (λ es. readEntries s j es (drop (12 * k) l)))
+          → readEntries s (suc k + j) before l ≡ andThen (readEntries s (suc k) before l) (λ es. readEntries s j es (drop (12 * suc k) l))
+      go true e rest = rw (suc-add, read-one (k + j) before l e, read-one k before l e, mul-suc, add-comm (12 * k) 12, ← drop-drop (12 * k) 12 l) (rest _ _)
+      go false e rest = unfold andThen in rw (suc-add, read-none (k + j) before l e, read-none k before l e)
+
+-- ---- The first k entries
+
+module _ (s : Sheet) (store : List ℕ) where
+  pub entries-count : (k : ℕ) → length (entriesIn s store k) ≡ k
+  unfolding entriesIn
+  entries-count zero = refl
+  entries-count (suc k) = rw (length-append, entries-count k) (add-one k)
+
+  -- what is read after k entries
+  read-next : {es : List Entry} (k : ℕ) → readEntries s k [] store ≡ accepted es → readEntries s (suc k) [] store ≡ readEntries s 1 es (drop (12 * k) store)
+  unfolding andThen
+  read-next k e = ap (λ n. readEntries s n [] store) (sym (add-one k)) ∙ read-then s k 1 [] store ∙ ap (λ r. andThen r (λ es. readEntries s 1 es (drop (12 * k) store))) e
+
+  pub record Last (k : ℕ) (es : List Entry) : Type 0 where
+    pub before : readEntries s k [] store ≡ accepted (entriesIn s store k)
+    pub passes : isEntry s (entriesIn s store k) (take 12 (drop (12 * k) store)) ≡ true
+    pub appended : es ≡ entriesIn s store (suc k)
+
+  last-entry : (k : ℕ) (es : List Entry) → ((es′ : List Entry) → readEntries s k [] store ≡ accepted es′ → es′ ≡ entriesIn s store k)
+      → readEntries s (suc k) [] store ≡ accepted es → Last k es
+  unfolding andThen entriesIn
+  last-entry k es are q = go (readEntries s k [] store) refl
+    where
+      ends : (es′ : List Entry) → readEntries s k [] store ≡ accepted es′ → (b : Bool) → isEntry s es′ (take 12 (drop (12 * k) store)) ≡ b → Last k es
+      ends es′ e true t =
+          let same = are es′ e in
+          let all : accepted es ≡ accepted (es′ ++ entryAt s store k ∷ []) = sym q ∙ read-next k e ∙ read-single s es′ (drop (12 * k) store) t in
+          record { before = rw (← same) e; passes = rw (← same) t; appended = rw (← same) (cc) }
+      ends es′ e false t = absurd (let r = read-next k e ∙ read-none s 0 es′ (drop (12 * k) store) t in let z : _≡_ {A = ℕ} 0 1 = cc in omega arith)
+
+      go : (r : Checked (List Entry)) → readEntries s k [] store ≡ r → Last k es
+      go (refused n p) e = absurd (let r = ap (λ n. readEntries s n [] store) (sym (add-one k)) ∙ read-then s k 1 [] store in let z : _≡_ {A = ℕ} 0 1 = cc in omega arith)
+      go (accepted es′) e = ends es′ e (isEntry s es′ (take 12 (drop (12 * k) store))) refl
+
+  pub entries-are : (k : ℕ) (es : List Entry) → readEntries s k [] store ≡ accepted es → es ≡ entriesIn s store k
+  entries-are zero es q = unfold readEntries entriesIn in cc
+  entries-are (suc k) es q = last-entry k es (entries-are k) q .appended
+
+  pub entries-last : (k : ℕ) → readEntries s (suc k) [] store ≡ accepted (entriesIn s store (suc k)) → Last k (entriesIn s store (suc k))
+  entries-last k q = last-entry k _ (entries-are k) q
+
+  -- One entry more is read, or refused.
+  module _ (k : ℕ) (before : readEntries s k [] store ≡ accepted (entriesIn s store k)) where
+    pub entry-read : isEntry s (entriesIn s store k) (take 12 (drop (12 * k) store)) ≡ true → readEntries s (suc k) [] store ≡ accepted (entriesIn s store (suc k))
+    unfolding entriesIn
+    entry-read t = read-next k before ∙ read-single s _ (drop (12 * k) store) t
+
+    pub entry-refused : isEntry s (entriesIn s store k) (take 12 (drop (12 * k) store)) ≡ false → (n : ℕ) → k < n → readEntries s n [] store ≡ refused 10 k
+    unfolding andThen
+    entry-refused t n h =
+        let count : suc k + (n - suc k) ≡ n = omega arith in
+        let one : readEntries s (suc k) [] store ≡ refused 10 k = read-next k before ∙ read-none s 0 _ (drop (12 * k) store) t ∙ ap (refused 10) (entries-count k) in
+        rw (← count, read-then s (suc k) (n - suc k) [] store, one)
+
+-- ---- Occurrences and keys
+
+-- The types of a key's attribute, and the entry with a key and a value in their four-byte forms.
+abbrev parameterType : Sheet → Key → Base
+parameterType s q = attributeAt (s .attributes) (q .attribute) .parameter-type
+
+abbrev resultType : Sheet → Key → Base
+resultType s q = attributeAt (s .attributes) (q .attribute) .result
+
+abbrev entryWith : Sheet → Key → ℕ → Entry
+entryWith s q w = record {
+  occurrence = record { node = q .node; attribute = q .attribute; parameter = ofWord (parameterType s q) (q .word) };
+  value = ofWord (resultType s q) w;
+}
+
+module _ (s : Sheet) (store : List ℕ) (j : ℕ) where
+  entry-is : entryAt s store j ≡ entryWith s (keyAt store j) (valueWord store j)
+  unfolding keyAt entryOf
+  entry-is = rw (part-taken 0 2 12 (drop (12 * j) store) (omega arith), byte-at store j 2 (omega arith), part-at store j 4 4 (omega arith), part-at store j 8 4 (omega arith))
+
+  -- the tests of an entry, but for whether its occurrence was kept before
+  unfoldable pub tests : Bool
+  tests =
+      ltb (keyAt store j .node) (nodeCount s) && ltb (keyAt store j .attribute) (attributeCount s) && eqb (getD store (12 * j + 3) 0) 0
+      && isWord (nodeCount s) (parameterType s (keyAt store j)) (keyAt store j .word)
+      && isWord (nodeCount s) (resultType s (keyAt store j)) (valueWord store j)
+
+  pub entry-tests : (before : List Entry) → isEntry s before (take 12 (drop (12 * j) store)) ≡ (tests && not (isKept (kept before (entryAt s store j .occurrence))))
+  unfolding keyAt isEntry tests
+  entry-tests before = rw (part-taken 0 2 12 (drop (12 * j) store) (omega arith), byte-at store j 2 (omega arith), byte-at store j 3 (omega arith), part-at store j 4 4 (omega arith), part-at store j 8 4 (omega arith))
+
+  module _ (passed : tests ≡ true) where
+    word-passed : isWord (nodeCount s) (parameterType s (keyAt store j)) (keyAt store j .word) ≡ true
+    unfolding tests
+    word-passed = (simp and-eq-true-iff at passed) .0 .1
+
+    pub value-passed : isWord (nodeCount s) (resultType s (keyAt store j)) (valueWord store j) ≡ true
+    unfolding tests
+    value-passed = (simp and-eq-true-iff at passed) .1
+
+    entry-in : OccurrenceIn (nodeCount s) (s .attributes) (entryAt s store j .occurrence)
+    unfolding tests
+    entry-in =
+        let t = simp and-eq-true-iff at passed in
+        rw entry-is
+        record { node-declared = ltb-true _ _ (t .0 .0 .0 .0); attribute-declared = ltb-true _ _ (t .0 .0 .0 .1); parameter-in = word-in (nodeCount s) _ _ word-passed }
+
+    entry-key : keyOf (entryAt s store j .occurrence) ≡ keyAt store j
+    unfolding keyOf
+    entry-key = rw (entry-is, word-trip (nodeCount s) (parameterType s (keyAt store j)) (keyAt store j .word) word-passed)
+
+-- ---- What is kept
+
+kept-after : (l : List Entry) (e : Entry) (o : Occurrence) → kept l o ≡ none → kept (l ++ e ∷ []) o ≡ kept (e ∷ []) o
+unfolding kept
+kept-after [] e o h = refl
+kept-after (d ∷ l) e o h = go (sameOccurrence (d .occurrence) o) h (kept-after l e o)
+  where
+    go : (b : Bool) → cond b (some (d .value)) (kept l o) ≡ none → (kept l o ≡ none → kept (l ++ e ∷ []) o ≡ kept (e ∷ []) o)
+        → cond b (some (d .value)) (kept (l ++ e ∷ []) o) ≡ kept (e ∷ []) o
+    go true h f = absurd (let z : _≡_ {A = ℕ} 0 1 = cc in omega arith)
+    go false h f = f h
+
+kept-other : (l : List Entry) (e : Entry) (o : Occurrence) → sameOccurrence (e .occurrence) o ≡ false → kept (l ++ e ∷ []) o ≡ kept l o
+unfolding kept
+kept-other [] e o h = rw h
+kept-other (d ∷ l) e o h = rw (kept-other l e o h)
+
+not-kept : (v : Option Value) → isKept v ≡ false → v ≡ none
+unfolding isKept
+not-kept none h = refl
+not-kept (some v) h = absurd (true≢false h)
+
+module _ (s : Sheet) (store : List ℕ) (o : Occurrence) (declared : OccurrenceIn (nodeCount s) (s .attributes) o) where
+  occurrence-refl : sameOccurrence o o ≡ true
+  unfolding sameOccurrence
+  occurrence-refl = rw (eq-eqb (o .node) (o .node) refl, eq-eqb (o .attribute) (o .attribute) refl) (same-value-refl (declared .parameter-in))
+
+  -- An entry with the key of an occurrence is of that occurrence.
+  entry-of : (j : ℕ) → keyAt store j ≡ keyOf o → entryAt s store j ≡ record { occurrence = o; value = ofWord (resultType s (keyOf o)) (valueWord store j) }
+  entry-of j e = rw (entry-is s store j, e) (λ i. unfold keyOf in record {
+    occurrence = record { node = o .node; attribute = o .attribute; parameter = declared .parameter-in .round-trip i };
+    value = ofWord (resultType s (keyOf o)) (valueWord store j);
+  })
+
+  kept-found : (k : ℕ) → readEntries s k [] store ≡ accepted (entriesIn s store k)
+      → kept (entriesIn s store k) o ≡ keptAt (resultType s (keyOf o)) store (findKey store k (keyOf o))
+  unfolding entriesIn findKey keptAt
+  kept-found zero q = unfold kept in refl
+  kept-found (suc k) q = go (sameKey (keyAt store k) (keyOf o)) refl (kept-found k (last .before))
+    where
+      last : Last s store k (entriesIn s store (suc k))
+      last = entries-last s store k q
+
+      passed : (tests s store k ≡ true) × (isKept (kept (entriesIn s store k) (entryAt s store k .occurrence)) ≡ false)
+      passed = let t = and-eq-true-iff _ _ .0 (sym (entry-tests s store k (entriesIn s store k)) ∙ last .passes) in (t .0, not-true _ (t .1))
+
+      differs : sameKey (keyAt store k) (keyOf o) ≡ false → (b : Bool) → sameOccurrence (entryAt s store k .occurrence) o ≡ b → sameOccurrence (entryAt s store k .occurrence) o ≡ false
+      differs e true t =
+          let same : keyAt store k ≡ keyOf o = sym (entry-key s store k (passed .0)) ∙ ap keyOf (same-occurrence _ _ t) in
+          absurd (true≢false (sym (key-refl (keyOf o)) ∙ rw same at e))
+      differs e false t = t
+
+      go : (b : Bool) → sameKey (keyAt store k) (keyOf o) ≡ b
+          → kept (entriesIn s store k) o ≡ keptAt (resultType s (keyOf o)) store (findKey store k (keyOf o))
+          → kept (entriesIn s store k ++ entryAt s store k ∷ []) o ≡ keptAt (resultType s (keyOf o)) store (cond b (some k) (findKey store k (keyOf o)))
+      go true e f =
+          let entry = entry-of k (same-key _ _ e) in
+          let fresh = not-kept _ (rw entry at (passed .1)) in
+          rw entry (kept-after (entriesIn s store k) _ o fresh ∙ unfold kept in rw occurrence-refl)
+      go false e f = kept-other (entriesIn s store k) (entryAt s store k) o (differs e _ refl) ∙ f
+
+-- The first k entries pass their tests.
+passed-at : (s : Sheet) (store : List ℕ) (k j : ℕ) → readEntries s k [] store ≡ accepted (entriesIn s store k) → j < k → tests s store j ≡ true
+passed-at s store zero j q h = absurd (omega arith)
+passed-at s store (suc k) j q h = go (eqb j k) refl (passed-at s store k j (last .before))
+  where
+    last : Last s store k (entriesIn s store (suc k))
+    last = entries-last s store k q
+
+    go : (b : Bool) → eqb j k ≡ b → (j < k → tests s store j ≡ true) → tests s store j ≡ true
+    go true e f = rw (eqb-true j k e) (and-eq-true-iff _ _ .0 (sym (entry-tests s store k (entriesIn s store k)) ∙ last .passes) .0)
+    go false e f = let other = eqb-false j k e in f (omega arith)
+
+-- ---- A store that passes
+
+module _ (s : Sheet) (store : List ℕ) (k : ℕ) (es : List Entry) (passes : checkStore s store k ≡ accepted es) (o : Occurrence)
+    (declared : OccurrenceIn (nodeCount s) (s .attributes) o) where
+  entries : es ≡ entriesIn s store k
+  entries = entries-are s store k es (store-in s store k es passes .reads)
+
+  -- What an occurrence keeps is what its key finds.
+  pub kept-by-key : kept es o ≡ keptAt (attributeAt (s .attributes) (o .attribute) .result) store (findKey store k (keyOf o))
+  unfolding keyOf
+  kept-by-key = rw entries (kept-found s store o declared k (rw entries at (store-in s store k es passes .reads)))
+
+  pub kept-none : findKey store k (keyOf o) ≡ none → kept es o ≡ none
+  unfolding keptAt
+  kept-none e = rw e at kept-by-key
+
+  module _ (j : ℕ) (found : findKey store k (keyOf o) ≡ some j) where
+    pub kept-some : kept es o ≡ some (ofWord (attributeAt (s .attributes) (o .attribute) .result) (valueWord store j))
+    unfolding keptAt
+    kept-some = rw found at kept-by-key
+
+    pub kept-word : isWord (nodeCount s) (attributeAt (s .attributes) (o .attribute) .result) (valueWord store j) ≡ true
+    unfolding keyOf
+    kept-word =
+        let at = found-below store k (keyOf o) j found in
+        let word = value-passed s store j (passed-at s store k j (rw entries at (store-in s store k es passes .reads)) (at .0)) in
+        rw (same-key _ _ (at .1)) at word
+
+-- ---- One entry more
+
+module _ (s : Sheet) (store : List ℕ) (j : ℕ) where
+  pub first-tests : isEntry s [] (take 12 (drop (12 * j) store)) ≡ tests s store j
+  unfolding kept isKept
+  first-tests = entry-tests s store j [] ∙ and-true (tests s store j)
+
+  -- What fails by itself fails after any entries.
+  pub entry-fails : (before : List Entry) → isEntry s [] (take 12 (drop (12 * j) store)) ≡ false → isEntry s before (take 12 (drop (12 * j) store)) ≡ false
+  entry-fails before t = rw (entry-tests s store j before, ← first-tests, t)
+
+  -- What passes by itself passes after the entries before it if none of them has its key.
+  module _ (reads : readEntries s j [] store ≡ accepted (entriesIn s store j)) (passed : isEntry s [] (take 12 (drop (12 * j) store)) ≡ true) where
+    all-tests : tests s store j ≡ true
+    all-tests = sym first-tests ∙ passed
+
+    entry-kept : kept (entriesIn s store j) (entryAt s store j .occurrence) ≡ keptAt (resultType s (keyAt store j)) store (findKey store j (keyAt store j))
+    entry-kept = rw (entry-key s store j all-tests) at (kept-found s store (entryAt s store j .occurrence) (entry-in s store j all-tests) j reads)
+
+    pub entry-new : findKey store j (keyAt store j) ≡ none → isEntry s (entriesIn s store j) (take 12 (drop (12 * j) store)) ≡ true
+    unfolding keptAt isKept
+    entry-new e = rw (entry-tests s store j (entriesIn s store j), all-tests, entry-kept, e)
+
+    pub entry-known : (i : ℕ) → findKey store j (keyAt store j) ≡ some i → isEntry s (entriesIn s store j) (take 12 (drop (12 * j) store)) ≡ false
+    unfolding keptAt isKept
+    entry-known i e = rw (entry-tests s store j (entriesIn s store j), all-tests, entry-kept, e)
