@@ -7,13 +7,16 @@ use native.Mathlib.Omega.{arith}
 use lib.ListN.{length, take, drop, getD, length-drop}
 use borrow.Author.Tests.{le-leb, lt-leb, lt-ltb, le-ltb}
 use borrow.Rule.Slice.PartAt.{part-to-end}
-use Rattle.saiga.specs.Values.{Base, Ty}
-use Rattle.saiga.specs.Expressions.{Expr, Head, if-head, application-head, attribute-head, headOf, Scope, Reading, malformed, reads, _followed-by_, whenever, readAfter, readExpr}
+use mir.Syntax.{w8}
+use mir.Val.{Fits}
+use Rattle.saiga.specs.Values.{Base, Ty, intT}
+use Rattle.saiga.specs.Expressions.{Expr, if-head, application-head, attribute-head, headOf, Scope, Reading, malformed, reads, _followed-by_, whenever, readAfter, readExpr}
 use Rattle.saiga.specs.Types.{Attribute, attributeAt, inferIf, inferApplication, infer}
 use Rattle.saiga.proofs.Reading.{read-width}
 use Rattle.expressions.specs.declared.Form.{Form}
 use Rattle.expressions.specs.declared.Form.the-variants.{Malformed, Reads}
 use Rattle.expressions.specs.Forms.{inferredNumber, inferAttribute, formOf, formAfter}
+use Rattle.expressions.proofs.Literals.{operand-reads, int-word, NoHead, no-head-is, no-head-refused}
 
 -- `r` is the form of the expression at the front of `l`: what the code's `read` ensures
 abbrev pub FormAt : Scope → List Attribute → Base → List ℕ → Form → Type 0
@@ -22,6 +25,12 @@ FormAt s sig p l r = (k : ℕ) → length l ≤ k → r ≡ formOf sig p (readEx
 -- the bytes from m on, as the code lends them
 abbrev from : List ℕ → ℕ → List ℕ
 from l m = take (length l - m) (drop m l)
+
+-- what an expression that was read takes of the bytes it was read from
+pub record Taken : Type 0 where
+  pub width : ℕ
+  pub bytes : ℕ
+  pub within : (1 ≤ width) × (width ≤ bytes)
 
 module _ (s : Scope) (sig : List Attribute) (p : Base) where
   -- a form that reads stands for an expression
@@ -35,6 +44,9 @@ module _ (s : Scope) (sig : List Attribute) (p : Base) where
   form-width l f h =
       let (e, q, n) = form-reads (readExpr s (length l) l) (sym (f (length l) (omega arith)) ∙ h) in
       read-width s (length l) l e _ q
+
+  abbrev pub taken : (l : List ℕ) {r : Form} {m t : ℕ} → FormAt s sig p l r → r ≡ Reads m t → Taken
+  taken l {m} f e = record { width = m; bytes = length l; within = form-width l f e }
 
   -- after an expression that was read, and after none
   goes-on : (R : Reading) (g : Expr → ℕ → Reading) {m t : ℕ} {r : Form} → formOf sig p R ≡ Reads m t
@@ -144,14 +156,24 @@ module _ (s : Scope) (sig : List Attribute) (p : Base) where
 
   -- ---- From the operands to the expression
 
-  pub read-after : (e : List ℕ) (c : Head) {r : Form} → (length e ≡ 0 → ⊥) → headOf (getD e 0 0) ≡ c
-      → ((k : ℕ) → length (from e 1) ≤ k → r ≡ formAfter s sig p k c (from e 1)) → FormAt s sig p e r
+  -- b is the head's byte
+  pub read-after : (e : List ℕ) (b : ℕ) {r : Form} → (length e ≡ 0 → ⊥) → getD e 0 0 ≡ b
+      → ((k : ℕ) → length (from e 1) ≤ k → r ≡ formAfter s sig p k (headOf b) (from e 1)) → FormAt s sig p e r
   unfolding readExpr
-  read-after [] c n q f k h = absurd (n refl)
-  read-after (b ∷ l) c n q f zero h = absurd (omega arith)
-  read-after (b ∷ l) c n q f (suc k) h =
-      let part : from (b ∷ l) 1 ≡ l = part-to-end (b ∷ l) 1 in
+  read-after [] b n q f k h = absurd (n refl)
+  read-after (a ∷ l) b n q f zero h = absurd (omega arith)
+  read-after (a ∷ l) b n q f (suc k) h =
+      let part : from (a ∷ l) 1 ≡ l = part-to-end (a ∷ l) 1 in
       rw q (rw part at (f k (rw part (omega arith))))
+
+  -- four bytes after the head of an Int are always one
+  pub read-int : (e : List ℕ) → (length e ≡ 0 → ⊥) → getD e 0 0 ≡ 0x12 → 4 ≤ length (from e 1) → ((i : ℕ) → Fits w8 (getD e i 0))
+      → FormAt s sig p e (Reads 5 3)
+  unfolding headOf
+  read-int e n q w b = read-after e 0x12 n q λ k h. operand-reads s sig p k intT (from e 1) w (int-word _ e λ i. b i .fits)
+
+  pub read-no-head : (e : List ℕ) → (length e ≡ 0 → ⊥) → NoHead (getD e 0 0) → FormAt s sig p e Malformed
+  read-no-head e n h = read-after e (getD e 0 0) n refl λ k l. rw (no-head-is _ h) (no-head-refused s sig p k (from e 1))
 
   pub read-nothing : (e : List ℕ) → length e ≡ 0 → FormAt s sig p e Malformed
   unfolding readExpr formOf

@@ -88,22 +88,33 @@ module _ (s : Scope) (sig : List Attribute) (p : Base) (k : ℕ) (l : List ℕ) 
 
 -- ---- Without operands
 
--- a byte that is no head
-pub no-head-is : (c : ℕ) → (c ≡ 0x10 → ⊥) → (c ≡ 0x11 → ⊥) → (c ≡ 0x12 → ⊥) → (c ≡ 0x13 → ⊥) → (c ≡ 0x14 → ⊥) → (c ≡ 0x20 → ⊥)
-    → (c ≡ 0x21 → ⊥) → (c ≡ 0x22 → ⊥) → (c ≡ 0x30 → ⊥) → (c ≡ 0x31 → ⊥) → headOf c ≡ no-head
+-- a byte that is no head: what the code's `match` has left over when none of its arms was taken
+pub record NoHead (c : ℕ) : Type 0 where
+  pub unit : c ≡ 0x10 → ⊥
+  pub bool : c ≡ 0x11 → ⊥
+  pub int : c ≡ 0x12 → ⊥
+  pub node : c ≡ 0x13 → ⊥
+  pub function : c ≡ 0x14 → ⊥
+  pub if : c ≡ 0x20 → ⊥
+  pub application : c ≡ 0x21 → ⊥
+  pub attribute : c ≡ 0x22 → ⊥
+  pub this : c ≡ 0x30 → ⊥
+  pub parameter : c ≡ 0x31 → ⊥
+
+pub no-head-is : (c : ℕ) → NoHead c → headOf c ≡ no-head
 unfolding headOf
-no-head-is c h₁ h₂ h₃ h₄ h₅ h₆ h₇ h₈ h₉ h₀ =
+no-head-is c h =
     rw (
-      ne-eqb c 0x10 h₁,
-      ne-eqb c 0x11 h₂,
-      ne-eqb c 0x12 h₃,
-      ne-eqb c 0x13 h₄,
-      ne-eqb c 0x14 h₅,
-      ne-eqb c 0x20 h₆,
-      ne-eqb c 0x21 h₇,
-      ne-eqb c 0x22 h₈,
-      ne-eqb c 0x30 h₉,
-      ne-eqb c 0x31 h₀,
+      ne-eqb c 0x10 (h .unit),
+      ne-eqb c 0x11 (h .bool),
+      ne-eqb c 0x12 (h .int),
+      ne-eqb c 0x13 (h .node),
+      ne-eqb c 0x14 (h .function),
+      ne-eqb c 0x20 (h .if),
+      ne-eqb c 0x21 (h .application),
+      ne-eqb c 0x22 (h .attribute),
+      ne-eqb c 0x30 (h .this),
+      ne-eqb c 0x31 (h .parameter),
     )
 
 module _ (s : Scope) (sig : List Attribute) (p : Base) (k : ℕ) (l : List ℕ) where
