@@ -9,7 +9,7 @@ use lib.ListN.{length, take, drop, getD}
 use lib.Seq.{getD-drop}
 use borrow.Rule.Slice.PartAt.{part-to-end}
 use borrow.Author.Tests.{le-leb, lt-leb, lt-ltb, le-ltb, eq-eqb, ne-eqb}
-use Rattle.saiga.specs.Values.{Base, unitT, intT, nodeT, baseCode, null, functionOf, functionType, ofBytes, isWord, typeOf}
+use Rattle.saiga.specs.Values.{Base, unitT, boolT, intT, nodeT, baseCode, null, functionOf, functionType, ofBytes, isWord, typeOf}
 use Rattle.saiga.specs.Expressions.{Scope, base-literal, function-literal, this-head, parameter-head, no-head, headOf, operandWidth, readOperand, readAfter, whenever}
 use Rattle.saiga.specs.Types.{Attribute, infer}
 use Rattle.saiga.proofs.FourBytes.{word-in, in-type}
@@ -41,20 +41,6 @@ unfolding isWord
 int-word nodes e h =
     rw (part-to-end e 1) (lt-ltb (ofBytes (take 4 (drop 1 e))) 4294967296 (bytes-below 4 (drop 1 e) λ i. rw (getD-drop 1 e i 0) (h (1 + i))))
 
--- ---- Nodes
-
-pub declared-word : (nodes w : ℕ) → w < nodes → isWord nodes nodeT w ≡ true
-unfolding isWord
-declared-word nodes w h = rw (lt-ltb w nodes h)
-
-pub null-word : (nodes w : ℕ) → nodes ≤ w → w ≡ null → isWord nodes nodeT w ≡ true
-unfolding isWord
-null-word nodes w h e = rw (le-ltb w nodes h, eq-eqb w null e)
-
-pub no-word : (nodes w : ℕ) → nodes ≤ w → (w ≡ null → ⊥) → isWord nodes nodeT w ≡ false
-unfolding isWord
-no-word nodes w h e = rw (le-ltb w nodes h, ne-eqb w null e)
-
 -- ---- Operands
 
 module _ (s : Scope) (sig : List Attribute) (p : Base) (k : ℕ) (B : Base) (l : List ℕ) where
@@ -73,6 +59,30 @@ module _ (s : Scope) (sig : List Attribute) (p : Base) (k : ℕ) (B : Base) (l :
   operand-refused h w = rw (le-leb (operandWidth B) (length l) h, w)
 
 module _ (s : Scope) (sig : List Attribute) (p : Base) (k : ℕ) (l : List ℕ) where
+  pub bool-reads : 1 ≤ length l → getD l 0 0 < 2 → Reads 2 2 ≡ formAfter s sig p k (base-literal boolT) l
+  unfolding isWord
+  bool-reads h v = operand-reads s sig p k boolT l h (rw (one-byte l h) (lt-ltb (getD l 0 0) 2 v))
+
+  pub bool-refused : 1 ≤ length l → 2 ≤ getD l 0 0 → Malformed ≡ formAfter s sig p k (base-literal boolT) l
+  unfolding isWord
+  bool-refused h v = operand-refused s sig p k boolT l h (rw (one-byte l h) (le-ltb (getD l 0 0) 2 v))
+
+  module _ (h : 2 ≤ length l) {nodes : ℕ} (n : s .nodes ≡ nodes) where
+    abbrev node : ℕ
+    node = getD l 0 0 + 256 * getD l 1 0
+
+    pub declared-reads : node < nodes → Reads 3 4 ≡ formAfter s sig p k (base-literal nodeT) l
+    unfolding isWord
+    declared-reads d = operand-reads s sig p k nodeT l h (rw (n, two-bytes l h, lt-ltb node nodes d))
+
+    pub null-reads : nodes ≤ node → node ≡ null → Reads 3 4 ≡ formAfter s sig p k (base-literal nodeT) l
+    unfolding isWord
+    null-reads d e = operand-reads s sig p k nodeT l h (rw (n, two-bytes l h, le-ltb node nodes d, eq-eqb node null e))
+
+    pub node-refused : nodes ≤ node → (node ≡ null → ⊥) → Malformed ≡ formAfter s sig p k (base-literal nodeT) l
+    unfolding isWord
+    node-refused d e = operand-refused s sig p k nodeT l h (rw (n, two-bytes l h, le-ltb node nodes d, ne-eqb node null e))
+
   pub function-short : length l < 1 → Malformed ≡ formAfter s sig p k function-literal l
   unfolding formOf readAfter whenever
   function-short h = rw (lt-leb 1 (length l) h)

@@ -1,25 +1,38 @@
 -- An expression that takes all its bytes.
+use mathlib.Core.Bool.{Bool}
 use mathlib.Core.List.{List}
 use mathlib.Core.Path.{_≡_, refl, sym, ap, _∙_}
-use Prim.Native.Nat.{ℕ, _≤_, _<_}
+use Prim.Native.Nat.{ℕ, _%_, _≤_, _<_}
 use native.Mathlib.Omega.{arith}
 use lib.ListN.{length}
 use borrow.Author.Tests.{le-leb, lt-leb, eq-eqb, ne-eqb}
-use Rattle.saiga.specs.Values.{Base}
+use Rattle.saiga.specs.Values.{Base, baseOf}
 use Rattle.saiga.specs.Expressions.{Scope, Reading, malformed, reads, exactly, readExpr, readWhole}
 use Rattle.saiga.specs.Types.{Attribute}
 use Rattle.expressions.specs.declared.Form.{Form}
 use Rattle.expressions.specs.declared.Form.the-variants.{Malformed, Reads}
 use Rattle.expressions.specs.declared.Formed.the-variants.{NoExpression, Expression}
-use Rattle.expressions.specs.Forms.{formOf, formedOf}
+use Rattle.expressions.specs.Forms.{scopeOf, thisIn, parameterIn, formOf, formedOf}
 use Rattle.expressions.proofs.Composites.{FormAt, form-reads}
 
-module _ (s : Scope) (sig : List Attribute) (p : Base) (l : List ℕ) where
+module _ (nodes attributes : ℕ) (this parameter : Bool) (code : ℕ) (sig : List Attribute) (l : List ℕ) where
+  abbrev s : Scope
+  s = scopeOf nodes attributes this parameter
+
+  abbrev p : Base
+  p = baseOf code
+
   pub whole-long : 256 < length l → NoExpression ≡ formedOf sig p (readWhole s l)
   unfolding readWhole formedOf
   whole-long h = rw (lt-leb (length l) 256 h)
 
-  module _ (h : length l ≤ 256) {r : Form} (f : FormAt s sig p l r) where
+  -- `read` is handed a number that says in one what the scope has of `this`, the parameter and its type
+  module _ (h : length l ≤ 256) (within : ℕ) (code-is : within % 256 ≡ code) (this-is : thisIn within ≡ this)
+      (parameter-is : parameterIn within ≡ parameter) {r : Form}
+      (read : FormAt (scopeOf nodes attributes (thisIn within) (parameterIn within)) sig (baseOf (within % 256)) l r) where
+    f : FormAt s sig p l r
+    f = rw (code-is, this-is, parameter-is) at read
+
     pub whole-malformed : r ≡ Malformed → NoExpression ≡ formedOf sig p (readWhole s l)
     unfolding readWhole formOf exactly formedOf
     whole-malformed e = rw (le-leb (length l) 256 h) (go (readExpr s (length l) l) (sym (f (length l) (omega arith)) ∙ e))

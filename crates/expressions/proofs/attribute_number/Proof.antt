@@ -36,7 +36,13 @@ base-number-requires-2 c κs = search needs
 returns-2 : tie.Need-returns-2
 returns-2 c =
     let at-base-number = c .before .before .before in
-    λ m N X h p q. rw (attribute-number _ m _ N X h p q, eq-eqb 4 _ (sym (at-base-number .before .before .if1 .left)), ← at-base-number .base-number .ensures, ← c .base-number2 .ensures, eq-eqb _ _ (sym (c .before .before .if2 .taken)))
+    λ m N X h p q. rw (
+      attribute-number _ m _ N X h p q,
+      eq-eqb 4 _ (sym (at-base-number .before .before .if1 .left)),
+      ← at-base-number .base-number .ensures,
+      ← c .base-number2 .ensures,
+      eq-eqb _ _ (sym (c .before .before .if2 .taken)),
+    )
 
 returns-3 : tie.Need-returns-3
 returns-3 c = λ m N X h p q. rw (attribute-number _ m _ N X h p q, eq-eqb 4 _ (sym (c .before .before .before .if1 .left)), ← c .before .base-number .ensures, ne-eqb _ _ λ k. c .if2 .left (sym k))

@@ -14,25 +14,19 @@ enum-told : tie.Need-enum-told
 enum-told c = search needs
 
 returns : tie.Need-returns
-returns c = λ s a n. question-none _ _ _ _ (c .before .before .read-whole .ensures) s a n (c .enum-told .given .1)
+returns c s a n = search question-none
 
 returns-2 : tie.Need-returns-2
-returns-2 c =
-    let at-t = c .before .before in
-    λ s a n. question-untyped _ _ _ _ (at-t .before .before .read-whole .ensures) s a n (at-t .t .given .1) (c .if1 .taken)
+returns-2 c s a n = search question-untyped
 
 returns-3 : tie.Need-returns-3
-returns-3 c =
-    let at-t = c .before .before .before in
-    λ s a n. question-of-function _ _ _ _ (at-t .before .before .read-whole .ensures) s a n (at-t .t .given .1) (c .if2 .taken)
+returns-3 c s a n = search question-of-function
 
 sub-t8 : tie.Need-sub-t8
 sub-t8 c = search needs
 
 returns-4 : tie.Need-returns-4
-returns-4 c =
-    let at-t = c .before .before .before in
-    λ s a n. question-of-base _ _ _ _ (at-t .before .before .read-whole .ensures) s a n (at-t .t .given .1) (c .before .if1 .left) (c .if2 .left)
+returns-4 c s a n = search question-of-base
 
 pub check-question-spec : {M : Type 1} → statement M
 check-question-spec =

@@ -5,7 +5,7 @@ use Rattle.expressions.proofs.read_function.Statement.{statement}
 use Rattle.expressions.proofs.read_function.Tie as tie
 
 returns : tie.Need-returns
-returns c = λ s sig p k. function-short s sig p k _ (c .if1 .taken)
+returns c s sig p k = search function-short
 
 shared-slice-read-f : tie.Need-shared-slice-read-f
 shared-slice-read-f c = search needs
@@ -14,10 +14,10 @@ function-number-requires : tie.Need-function-number-requires
 function-number-requires c κs = search needs
 
 returns-2 : tie.Need-returns-2
-returns-2 c = λ s sig p k. rw (c .function-number .ensures) (function-reads s sig p k _ (c .before .before .before .if1 .left) (c .before .if2 .taken))
+returns-2 c s sig p k = rw (c .function-number .ensures) (search function-reads)
 
 returns-3 : tie.Need-returns-3
-returns-3 c = λ s sig p k. function-refused s sig p k _ (c .before .before .if1 .left) (c .if2 .left)
+returns-3 c s sig p k = search function-refused
 
 pub read-function-spec : {M : Type 1} → statement M
 read-function-spec =
