@@ -11,7 +11,7 @@ mod rows;
 use std::process::ExitCode;
 use std::time::Duration;
 
-use trials::commands::ended;
+use trials::commands;
 
 use measure::{measure, Effort};
 use programs::{Engine, Input, Oracle, Program, Twin, Work};
@@ -32,9 +32,7 @@ const QUICK: Effort = Effort {
 };
 
 fn main() -> ExitCode {
-    let arguments: Vec<String> = std::env::args().skip(1).collect();
-    let words: Vec<&str> = arguments.iter().map(String::as_str).collect();
-    ended(match words[..] {
+    commands::main(|words| match *words {
         [] => print_table(&THOROUGH),
         ["--quick"] => print_table(&QUICK),
         _ => Err(USAGE.into()),

@@ -3,7 +3,10 @@
 use std::hint::black_box;
 use std::time::{Duration, Instant};
 
-use crate::library::{self, Fields};
+use calls::Call;
+use sofretu_sys::{Fields, Found};
+
+use crate::library;
 
 /// The budget of every question.
 const BUDGET: u64 = 1_000_000;
@@ -15,6 +18,19 @@ pub struct Input {
     pub question: Vec<u8>,
     pub store: Vec<u8>,
     pub kept: u64,
+}
+
+impl Input {
+    /// The whole call, with the store that it is lent.
+    fn call<'a>(&'a self, store: &'a mut [u8]) -> Call<'a> {
+        Call {
+            sheet: &self.sheet,
+            question: &self.question,
+            store,
+            kept: self.kept,
+            budget: BUDGET,
+        }
+    }
 }
 
 /// What one run is. Whatever is not named is done once, before the time is taken.
@@ -76,7 +92,7 @@ impl Program for Engine {
         let (sheet, question) = (&input.sheet[..], &input.question[..]);
         let mut store = input.store.clone();
         let lent = &mut store[..];
-        let refused = |(number, place): library::Stop| stopped(number.into(), place as i64);
+        let refused = |(number, place): Found| stopped(number.into(), place as i64);
         let (time, fields) = match work {
             Work::Question => {
                 let mut sheet = scratch.check(sheet).expect(CHECKED);
@@ -91,12 +107,8 @@ impl Program for Engine {
                 timed(runs, || store.ask(question, BUDGET))
             }
             // SAFETY: the programs run on the main thread, whose stack has more than the call needs.
-            Work::Ask => timed(runs, || unsafe {
-                sofretu_sys::ask(sheet, question, lent, input.kept, BUDGET)
-            }),
-            Work::AskIn => timed(runs, || {
-                scratch.ask(sheet, question, lent, input.kept, BUDGET)
-            }),
+            Work::Ask => timed(runs, || unsafe { sofretu_sys::ask(input.call(lent)) }),
+            Work::AskIn => timed(runs, || scratch.ask(input.call(lent))),
             Work::CheckSheet => timed(runs, || match scratch.check(sheet) {
                 Ok(sheet) => {
                     let (attributes, nodes) = sheet.declared();
@@ -152,12 +164,9 @@ impl Program for Twin {
                         .fields()
                 })
             }
-            Work::Ask => timed(runs, || {
-                twin::ask(black_box(sheet), question, lent, input.kept, BUDGET).fields()
-            }),
+            Work::Ask => timed(runs, || twin::ask(black_box(input.call(lent))).fields()),
             Work::AskIn => timed(runs, || {
-                let sheet = black_box(sheet);
-                twin::ask_in(sheet, question, lent, input.kept, BUDGET, scratch).fields()
+                twin::ask_in(black_box(input.call(lent)), scratch).fields()
             }),
             Work::CheckSheet => timed(runs, || {
                 match Sheet::check(black_box(sheet), &mut scratch.index) {

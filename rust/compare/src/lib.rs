@@ -5,7 +5,7 @@
 use sofretu::{Refusal, Scratch, Session, Sheet, Store, MOST_STEPS};
 use trials::compare::{compare_check, Counts};
 use trials::engine::ask_each;
-use trials::{Answer, Ask, Case, Engine};
+use trials::{Answer, Ask, Call, Case, Engine};
 
 /// The library's ways to put a question, each an engine.
 #[derive(Default)]
@@ -49,9 +49,8 @@ impl Ways {
 }
 
 /// `sofretu_check`, for `compare_check`.
-fn check(sheet: &[u8], store: &[u8], kept: u64, ask: &Ask) -> Result<(), (i64, i64)> {
-    sofretu::check(sheet, store, kept, &ask.question, ask.budget)
-        .map_err(|refusal| (refusal.stop.number().into(), refusal.place as i64))
+fn check(call: Call) -> Result<(), (i64, i64)> {
+    sofretu::check(&call).map_err(|refusal| (refusal.stop.number().into(), refusal.place as i64))
 }
 
 /// Every question with all its checks and its scratch on the stack.
@@ -59,17 +58,8 @@ fn check(sheet: &[u8], store: &[u8], kept: u64, ask: &Ask) -> Result<(), (i64, i
 struct Whole;
 
 impl Engine for Whole {
-    fn ask(
-        &mut self,
-        sheet: &[u8],
-        store: &mut [u8],
-        kept: u64,
-        question: &[u8],
-        budget: u64,
-    ) -> Answer {
-        sofretu::ask(sheet, store, kept, question, budget)
-            .fields()
-            .into()
+    fn ask(&mut self, call: Call) -> Answer {
+        sofretu::ask(call).fields().into()
     }
 }
 
@@ -89,18 +79,8 @@ impl Default for Lent {
 }
 
 impl Engine for Lent {
-    fn ask(
-        &mut self,
-        sheet: &[u8],
-        store: &mut [u8],
-        kept: u64,
-        question: &[u8],
-        budget: u64,
-    ) -> Answer {
-        self.scratch
-            .ask(sheet, store, kept, question, budget)
-            .fields()
-            .into()
+    fn ask(&mut self, call: Call) -> Answer {
+        self.scratch.ask(call).fields().into()
     }
 
     fn list(&mut self, case: &Case, each: &mut dyn FnMut(Answer, &[u8])) {
@@ -154,21 +134,14 @@ fn filling() -> Case {
 struct Sessions;
 
 impl Engine for Sessions {
-    fn ask(
-        &mut self,
-        sheet: &[u8],
-        store: &mut [u8],
-        kept: u64,
-        question: &[u8],
-        budget: u64,
-    ) -> Answer {
-        let mut lent = Store::from_parts(store.to_vec(), kept);
-        let answer = Sheet::check(sheet).and_then(|sheet| {
+    fn ask(&mut self, call: Call) -> Answer {
+        let mut lent = Store::from_parts(call.store.to_vec(), call.kept);
+        let answer = Sheet::check(call.sheet).and_then(|sheet| {
             let mut session = Session::open(&sheet, &mut lent)?;
-            Ok(session.ask(question, budget).fields().into())
+            Ok(session.ask(call.question, call.budget).fields().into())
         });
-        store.copy_from_slice(lent.bytes());
-        answer.unwrap_or_else(|refusal| refused(refusal, kept))
+        call.store.copy_from_slice(lent.bytes());
+        answer.unwrap_or_else(|refusal| refused(refusal, call.kept))
     }
 
     fn list(&mut self, case: &Case, each: &mut dyn FnMut(Answer, &[u8])) {

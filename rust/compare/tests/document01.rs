@@ -7,10 +7,15 @@ mod sheet_l;
 #[path = "../../trials/tests/document01/stops.rs"]
 mod stops;
 
-use trials::Answer;
+use trials::{Answer, Call};
 
 fn ask(sheet: &[u8], store: &mut [u8], kept: u64, question: &[u8], budget: u64) -> Answer {
-    sofretu::ask(sheet, store, kept, question, budget)
-        .fields()
-        .into()
+    let call = Call {
+        sheet,
+        question,
+        store,
+        kept,
+        budget,
+    };
+    sofretu::ask(call).fields().into()
 }

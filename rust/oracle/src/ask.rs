@@ -1,4 +1,4 @@
-//! A question put to a sheet and a lent store, with all its answer: document 01, "Stops by origin".
+//! Document 01, "Stops by origin": a question put to a sheet and a lent store, with all its answer.
 
 use std::fmt;
 
@@ -9,10 +9,10 @@ use crate::stop::{Reason, Stop};
 use crate::store::Store;
 use crate::values::Type;
 
-/// The greatest budget permitted.
+/// "The budget is 0 to 1,000,000 counted steps" ("The steps").
 pub const MOST_STEPS: u64 = 1_000_000;
 
-/// An answer's six fields.
+/// "An answer has number (0 for a value), place, type, value, steps, kept."
 #[derive(Clone, Copy, Debug, PartialEq, Eq)]
 pub struct Answer {
     pub number: i64,
@@ -101,7 +101,7 @@ pub fn ask_admitted(sheet: &Sheet, store: &mut Store, question: &Expr, budget: u
     }
 }
 
-/// Stops 9 to 13.
+/// Stops 9 to 13, in the order of their numbers.
 fn admit<'s>(
     sheet: &Sheet,
     store: &'s mut [u8],
@@ -128,7 +128,7 @@ pub fn read_question(bytes: &[u8], sheet: &Sheet) -> Result<Expr, Stop> {
     }
 }
 
-/// The answer under stops 1 to 13.
+/// "Under 1 to 13 steps are 0 and kept and store are as lent", and "under any stop type and value are 0".
 pub fn refusal(stop: Stop, kept: u64) -> Answer {
     Answer {
         number: stop.reason as i64,

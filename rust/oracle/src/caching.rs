@@ -1,7 +1,7 @@
-//! The caching steps: document 01, "The steps", with stops 14 to 16.
+//! Document 01, "The steps", and stops 14 to 16 of "Stops by origin".
 //!
-//! A recursive evaluator over the expression tree. A call of `evaluate` inside that of a definition is what lies inside
-//! the form n.a(v) := e.
+//! A recursive evaluator over the expression tree: "left part before right part, IF by condition only". A call of `evaluate` inside that of
+//! a definition is what lies inside the form n.a(v) := e.
 
 use std::thread;
 
@@ -11,7 +11,7 @@ use crate::stop::Reason;
 use crate::store::{Occurrence, Store};
 use crate::values::Value;
 
-/// How many forms can be open.
+/// Stop 16: "AttrApp due inside 64 open forms".
 pub const MOST_OPEN: usize = 64;
 
 /// Nesting that the caller's own stack is trusted with.
@@ -19,7 +19,7 @@ const SHALLOW: usize = 1_000;
 /// More than one call of `evaluate` takes on the stack, optimised or not.
 const STACK_PER_LEVEL: usize = 4_096;
 
-/// What stands for 0x30 and 0x31; a question has neither.
+/// The "n and v put for 0x30 and 0x31"; a question has neither.
 type Here = Option<(u16, Value)>;
 
 struct Run<'a, 's> {
@@ -97,7 +97,8 @@ impl<'a> Run<'a, '_> {
         }
     }
 
-    /// AttrApp, what lies inside the form it opens, and CacheWrite.
+    /// AttrApp, what lies inside the form it opens, and CacheWrite, which counts none. "Where several of 14 to 16 are due, the smallest"; 16
+    /// comes "whether or not the occurrence due is kept"; and "AttrApp takes a kept value before σ".
     fn attribute(&mut self, node: Value, attribute: u8, parameter: Value) -> Result<Value, Reason> {
         let node = match node {
             Value::Node(Some(node)) => node,
@@ -132,12 +133,12 @@ impl<'a> Run<'a, '_> {
         Ok(value)
     }
 
-    /// Whether a step due now finds the whole budget used.
+    /// Stop 15: "a counted step due with the whole budget used".
     fn spent(&self) -> bool {
         self.steps == self.budget
     }
 
-    /// Counts a step of IF or application.
+    /// "Each of CondTrue, CondFalse, AppApp and AttrApp counts one": the first three.
     fn count(&mut self) -> Result<(), Reason> {
         if self.spent() {
             return Err(Reason::Spent);

@@ -1,8 +1,8 @@
-//! Expressions: their form and their types (document 01, "The sheet"; document 001, figures 5 and 8).
+//! Document 01, "The sheet", where it speaks of expressions: their form, and their types by document 001's figures 5 and 8.
 
 use crate::values::{self, Base, Function, Type, Value};
 
-/// The greatest length of an expression in bytes.
+/// A rule's length is "1 to 256", and a question is "of 1 to 256 bytes".
 pub const LONGEST: usize = 256;
 
 /// An expression as a sheet or a question writes it.
@@ -29,7 +29,7 @@ pub struct Attribute {
 pub struct Scope<'a> {
     pub attributes: &'a [Attribute],
     pub nodes: usize,
-    /// The type of 0x31 in a rule; `None` in a question, which has neither 0x30 nor 0x31.
+    /// The type of 0x31 in a rule; `None` in a question, which is "without 0x30 and 0x31".
     pub parameter: Option<Base>,
 }
 
@@ -42,7 +42,7 @@ impl Expr {
         }
     }
 
-    /// The type of the expression, where it has one.
+    /// The type of the expression, where it has one. "Both branches of IF have one type, which may be a function type."
     pub fn type_of(&self, scope: Scope) -> Option<Type> {
         match self {
             Expr::Literal(Value::Function(function)) => Some(function.type_of()),
@@ -81,7 +81,7 @@ impl Expr {
     }
 }
 
-/// The expression at the front of `bytes`, and the bytes after it.
+/// The expression at the front of `bytes`, and the bytes after it. "Expressions are written head first."
 fn read_head<'b>(bytes: &'b [u8], scope: Scope) -> Option<(Expr, &'b [u8])> {
     let (head, rest) = bytes.split_first()?;
     match head {

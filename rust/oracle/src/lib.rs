@@ -1,7 +1,8 @@
 //! A second evaluator of settings sheets, written from document 01 alone. It shares nothing with the engines that are compared with it,
 //! not even their table of stops.
 //!
-//! "Document 01" is the paper "Settings sheets evaluated by Saiga", "document 001" the paper on Saiga that it follows.
+//! "Document 01" is the paper "Settings sheets evaluated by Saiga", "document 001" the paper on Saiga that it follows. Comments name the
+//! section of document 01 that the code says again, and put its words between quotation marks.
 #![forbid(unsafe_code)]
 
 pub mod ask;

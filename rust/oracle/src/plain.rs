@@ -8,7 +8,7 @@ use crate::expr::Expr;
 use crate::sheet::{Definition, Sheet};
 use crate::values::Value;
 
-/// How plain Saiga ends, and the count then.
+/// "It ends with a value or on null, and n is the count then; or it runs for ever."
 #[derive(Clone, Copy, Debug, PartialEq, Eq)]
 pub enum Ending {
     Value(Value, u64),
@@ -17,7 +17,7 @@ pub enum Ending {
     Running(u64),
 }
 
-/// An expression as it is written, with the n and v put for 0x30 and 0x31; a question has neither.
+/// An expression as it is written, with the "n and v put for 0x30 and 0x31" ("The sheet"); a question has neither.
 #[derive(Clone, Copy)]
 struct Written<'a> {
     expr: &'a Expr,
@@ -58,7 +58,7 @@ enum Around<'a> {
     },
 }
 
-/// Runs plain Saiga on an accepted question, for at most `limit` counted steps.
+/// Runs plain Saiga on an accepted question, for at most `limit` counted steps. "On null, all of plain Saiga ends, uncounted."
 pub fn run(sheet: &Sheet, question: &Expr, limit: u64) -> Ending {
     let mut around = Vec::new();
     let mut count = 0;
@@ -139,7 +139,7 @@ fn descend<'a>(mut written: Written<'a>, around: &mut Vec<Around<'a>>) -> Value 
     }
 }
 
-/// σ(n, a, v).
+/// What "takes the place of this part": σ(n, a, v).
 fn context(sheet: &Sheet, node: Value, attribute: u8, parameter: Value) -> Part<'_> {
     let Value::Node(Some(number)) = node else {
         unreachable!("ill typed: attribute of {node:?}");

@@ -1,13 +1,16 @@
-//! Document 01, "The sheet", and stops 1 to 8.
+//! Document 01, "The sheet", and stops 1 to 8 of "Stops by origin".
 
 use crate::expr::{Attribute, Expr, Scope, LONGEST};
 use crate::stop::{Reason, Stop};
 use crate::values::{Base, Type, Value};
 
-/// The greatest length of a sheet in bytes.
+/// "At most 65,536 bytes."
 pub const LONGEST_SHEET: usize = 65_536;
+/// Attributes: "at most 32".
 pub const MOST_ATTRIBUTES: usize = 32;
+/// Nodes: "at most 1,024".
 pub const MOST_NODES: usize = 1_024;
+/// "Kind 0 to 15".
 const KINDS: u8 = 16;
 
 /// An accepted sheet, or what has been read of one.
@@ -23,14 +26,14 @@ pub struct Sheet {
     deepest_rule: usize,
 }
 
-/// What σ hands on for a declared pair.
+/// σ(n, a, v): "the figure for (n, a) if there is one, else the rule for n's kind and a".
 #[derive(Clone, Copy, Debug)]
 pub enum Definition<'a> {
     Figure(Value),
     Rule(&'a Expr),
 }
 
-/// The kinds of commands in their order.
+/// "Commands of one byte with operands of fixed widths, in this order of kind".
 #[derive(Clone, Copy, PartialEq, Eq, PartialOrd, Ord)]
 enum Part {
     Attributes,
@@ -68,7 +71,7 @@ impl Part {
 }
 
 impl Sheet {
-    /// The sheet that `bytes` write, or the first of stops 1 to 8.
+    /// The sheet that `bytes` write, or the first of stops 1 to 8: "1, then commands from the front and in each command 2 to 7, then 8".
     pub fn read(bytes: &[u8]) -> Result<Sheet, Stop> {
         if bytes.len() > LONGEST_SHEET {
             return Err(Stop::of(Reason::SheetLength));
@@ -80,7 +83,8 @@ impl Sheet {
         let mut at = 0;
         let mut reached = Part::Attributes;
         while reached != Part::End {
-            // Where the end is lacking, `at` is the sheet's length.
+            // Stop 2: an "unknown or out-of-order command", a "command cut by the sheet's end", or "no end command": then `at` is "the sheet's
+            // length where the end is lacking".
             let out_of_place = Stop::at(Reason::Command, at);
             let (command, rest) = bytes[at..].split_first().ok_or(out_of_place)?;
             let part = Part::from_command(*command).ok_or(out_of_place)?;
@@ -95,6 +99,7 @@ impl Sheet {
             reached = part;
             at += 1 + width;
         }
+        // Stop 2 again: "the first byte after it where bytes follow".
         if at < bytes.len() {
             return Err(Stop::at(Reason::Command, at));
         }
@@ -104,7 +109,7 @@ impl Sheet {
         }
     }
 
-    /// Takes in one whole command: stops 3 to 7.
+    /// Takes in one whole command: stops 3 to 7, of which each function below tests the smaller first.
     fn command(&mut self, part: Part, operands: &[u8]) -> Result<(), Reason> {
         match part {
             Part::Attributes => self.attribute(operands[0], operands[1]),
@@ -119,6 +124,7 @@ impl Sheet {
         }
     }
 
+    /// "0x41 attribute: result type (1 byte), parameter type (1)."
     fn attribute(&mut self, result: u8, parameter: u8) -> Result<(), Reason> {
         if self.attributes.len() == MOST_ATTRIBUTES {
             return Err(Reason::TooMany);
@@ -129,6 +135,7 @@ impl Sheet {
         Ok(())
     }
 
+    /// "0x4E node: kind 0 to 15 (1)."
     fn node(&mut self, kind: u8) -> Result<(), Reason> {
         if self.nodes.len() == MOST_NODES {
             return Err(Reason::TooMany);
@@ -142,6 +149,7 @@ impl Sheet {
         Ok(())
     }
 
+    /// "0x56 figure: node (2), attribute (1), value (4) of the attribute's result type."
     fn figure(&mut self, node: u16, attribute: u8, value: [u8; 4]) -> Result<(), Reason> {
         if usize::from(node) >= self.nodes.len() {
             return Err(Reason::Operand);
@@ -155,6 +163,7 @@ impl Sheet {
         }
     }
 
+    /// "0x52 rule: kind (1), attribute (1), length 1 to 256 (2), then an expression of exactly that length."
     fn rule(&mut self, kind: u8, attribute: u8, written: &[u8]) -> Result<(), Reason> {
         if kind >= KINDS {
             return Err(Reason::Operand);
@@ -180,7 +189,7 @@ impl Sheet {
         Ok(())
     }
 
-    /// The number of the first pair without definition.
+    /// Stop 8's place: "node × 32 + attribute of the first pair by node then attribute" that has no definition.
     fn first_undefined(&self) -> Option<usize> {
         let attributes = 0..self.attributes.len() as u8;
         (0..self.nodes.len())
@@ -189,6 +198,7 @@ impl Sheet {
             .map(|(node, attribute)| pair(node, attribute))
     }
 
+    /// The definition of a declared pair, where there is one.
     fn lookup(&self, node: usize, attribute: u8) -> Option<Definition<'_>> {
         if let Some(value) = self.figures[pair(node, attribute)] {
             return Some(Definition::Figure(value));
@@ -199,7 +209,7 @@ impl Sheet {
             .map(Definition::Rule)
     }
 
-    /// The definition in force for a declared pair: the figure if there is one, else the rule.
+    /// The definition in force: "every declared pair (n, a) must have one".
     pub fn definition(&self, node: u16, attribute: u8) -> Definition<'_> {
         self.lookup(usize::from(node), attribute)
             .expect("every pair of an accepted sheet has a definition")
@@ -210,10 +220,12 @@ impl Sheet {
         self.attributes.get(usize::from(attribute)).copied()
     }
 
+    /// The declarations in their order.
     pub fn attributes(&self) -> &[Attribute] {
         &self.attributes
     }
 
+    /// How many nodes are declared.
     pub fn node_count(&self) -> usize {
         self.nodes.len()
     }

@@ -21,7 +21,7 @@ pub enum Reason {
     Depth = 16,
 }
 
-/// A stop with its place.
+/// A stop with its place, which is 0 where document 01 names no other.
 #[derive(Clone, Copy, Debug, PartialEq, Eq)]
 pub struct Stop {
     pub reason: Reason,

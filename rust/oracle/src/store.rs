@@ -1,4 +1,4 @@
-//! The store: document 01, "The steps", with stops 9 and 10.
+//! Document 01, "The steps", where it speaks of the store, and stops 9 and 10 of "Stops by origin".
 
 use std::collections::HashMap;
 
@@ -7,9 +7,9 @@ use crate::sheet::Sheet;
 use crate::stop::{Reason, Stop};
 use crate::values::Value;
 
-/// The length of an entry in bytes.
+/// "Entries of 12 bytes".
 pub const ENTRY: usize = 12;
-/// The greatest capacity in entries.
+/// "Capacity 0 to 1,024".
 pub const MOST_ENTRIES: usize = 1_024;
 
 /// An attribute occurrence (n, a, v).
@@ -28,7 +28,7 @@ pub struct Store<'s> {
 }
 
 impl<'s> Store<'s> {
-    /// Checks a lent store: stops 9 and 10.
+    /// Checks a lent store: stop 9, then 10 with "the first faulty entry's number from 0".
     pub fn open(bytes: &'s mut [u8], kept: u64, sheet: &Sheet) -> Result<Store<'s>, Stop> {
         let capacity = bytes.len() / ENTRY;
         if !well_shaped(bytes) || kept > capacity as u64 {
@@ -54,7 +54,7 @@ impl<'s> Store<'s> {
         self.kept.get(occurrence).copied()
     }
 
-    /// CacheWrite: appends the occurrence if it is not kept and the store is not full.
+    /// CacheWrite: "appends its occurrence if it is not kept and the store is not full; otherwise it changes nothing".
     pub fn write(&mut self, occurrence: Occurrence, value: Value) {
         let at = self.kept.len() * ENTRY;
         if at == self.bytes.len() || self.kept.contains_key(&occurrence) {
@@ -75,12 +75,13 @@ impl<'s> Store<'s> {
     }
 }
 
-/// Whether a store's length is that of a capacity from 0 to the most.
+/// Stop 9 holds of a "store length no multiple of 12 or over 12,288".
 pub fn well_shaped(store: &[u8]) -> bool {
     store.len().is_multiple_of(ENTRY) && store.len() <= ENTRY * MOST_ENTRIES
 }
 
-/// The occurrence and the value of a kept entry, if it is a good one.
+/// The occurrence and the value of a kept entry: "node (2), attribute (1), a zero byte, parameter (4), value (4)". Stop 10 holds of one
+/// "with undeclared node or attribute, nonzero fourth byte, bytes that are no value of the type".
 fn read_entry(entry: &[u8], sheet: &Sheet) -> Option<(Occurrence, Value)> {
     let (node, rest) = take::<2>(entry)?;
     let ([attribute, zero], rest) = take::<2>(rest)?;

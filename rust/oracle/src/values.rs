@@ -1,9 +1,9 @@
 //! Document 01, "Values and functions".
 
-/// Null in the four bytes of a Node, in the two of a Node literal, and in an answer.
+/// "65,535 for null": in the four bytes of a Node, in the two of a Node literal, and in an answer.
 pub const NULL: u16 = 65_535;
 
-/// The base types.
+/// The base types, whose codes are 0 to 3 in this order.
 #[derive(Clone, Copy, Debug, PartialEq, Eq, Hash)]
 pub enum Base {
     Unit,
@@ -48,7 +48,7 @@ impl Type {
     }
 }
 
-/// The functions by name.
+/// The functions, whose codes are 0 to 5 in this order.
 #[derive(Clone, Copy, Debug, PartialEq, Eq, Hash)]
 pub enum Function {
     Le,
@@ -87,7 +87,7 @@ impl Function {
     }
 }
 
-/// A function of two arguments holding its first.
+/// A function of two arguments holding its first: "le(4) is itself a function value".
 #[derive(Clone, Copy, Debug, PartialEq, Eq, Hash)]
 pub enum Holding {
     Le(i32),
@@ -109,7 +109,8 @@ pub enum Value {
 }
 
 impl Value {
-    /// The result of giving `argument` to this function, which typing has found fit for it.
+    /// The result of giving `argument` to this function, which typing has found fit for it. "All but 3 take their arguments one after the
+    /// other", and "null equals only null".
     pub fn apply(self, argument: Value) -> Value {
         match (self, argument) {
             (Value::Function(Function::Le), Value::Int(x)) => Value::Holding(Holding::Le(x)),
@@ -148,7 +149,7 @@ impl Value {
         }
     }
 
-    /// The value of type `base` that four bytes stand for, on a sheet of `nodes` nodes.
+    /// The value of type `base` that four bytes stand for, on a sheet of `nodes` nodes. "No other bytes are values."
     pub fn from_bytes(base: Base, bytes: [u8; 4], nodes: usize) -> Option<Value> {
         let word = u32::from_le_bytes(bytes);
         match base {
@@ -170,7 +171,7 @@ impl Value {
         }
     }
 
-    /// A base value as an answer gives it.
+    /// A base value as an answer gives it ("Sheet L and its questions", of what the report program prints).
     pub fn number(self) -> i64 {
         match self {
             Value::Int(x) => i64::from(x),
@@ -188,7 +189,7 @@ pub fn node(number: u16, nodes: usize) -> Option<Value> {
     }
 }
 
-/// An Int, held at the end that it lies beyond.
+/// "A sum or difference beyond either end of Int is held at that end."
 fn held(exact: i64) -> i32 {
     exact.clamp(i64::from(i32::MIN), i64::from(i32::MAX)) as i32
 }

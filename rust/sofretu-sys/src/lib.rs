@@ -1,18 +1,82 @@
-//! The C calls of the static library that `rt staticlib sofretu` writes, and each of them over slices.
+//! The C calls of the static library that `rt staticlib sofretu` writes, and each of them over slices and the three kinds of scratch.
 //!
 //! A call reads what a slice spans and writes what it is lent as `&mut`; the borrows give it that for as long as it runs. It asks
 //! nothing of what lent memory holds, unless its function says so. For safe types over these calls see the crate `sofretu`.
+//!
+//! What the scratch is made of is known here and in `include/sofretu.h` only.
 #![deny(unsafe_op_in_unsafe_fn)]
 #![warn(missing_docs)]
 
+pub use calls::Call;
+
+/// Document 01's six fields of an answer: number, place, type, value, steps, kept.
+pub type Fields = [i64; 6];
+
+/// What a check finds: the number of the first stop that holds, or 0; and its place.
+pub type Found = (u32, u64);
+
 /// The length of a sheet's index.
-pub const INDEX: usize = 33_280;
+const INDEX: usize = 33_280;
 /// The length of a store's index.
-pub const LINKS: usize = 2_048;
+const LINKS: usize = 2_048;
 /// The length of a run's frames.
-pub const FRAMES: usize = 16_640;
+const FRAMES: usize = 16_640;
 /// The length of a run's open forms.
-pub const FORMS: usize = 256;
+const FORMS: usize = 256;
+
+/// What the check of a sheet leaves for the questions to it.
+#[derive(Clone)]
+pub struct CheckedSheet {
+    /// How many attributes the sheet declares; 0 of a refused one.
+    pub attributes: u64,
+    /// How many nodes the sheet declares; 0 of a refused one.
+    pub nodes: u64,
+    index: Box<[u32; INDEX]>,
+}
+
+/// What the check of a store leaves for the questions that are lent it.
+#[derive(Clone)]
+pub struct CheckedStore {
+    links: Box<[u32; LINKS]>,
+}
+
+/// What a run works in.
+#[derive(Clone)]
+pub struct Run {
+    frames: Box<[u64; FRAMES]>,
+    forms: Box<[u32; FORMS]>,
+}
+
+impl Default for CheckedSheet {
+    fn default() -> CheckedSheet {
+        CheckedSheet {
+            attributes: 0,
+            nodes: 0,
+            index: zeros(),
+        }
+    }
+}
+
+impl Default for CheckedStore {
+    fn default() -> CheckedStore {
+        CheckedStore { links: zeros() }
+    }
+}
+
+impl Default for Run {
+    fn default() -> Run {
+        Run {
+            frames: zeros(),
+            forms: zeros(),
+        }
+    }
+}
+
+/// Made on the heap from the start: some are too large to pass through the stack without thought.
+fn zeros<T: Clone + Default, const N: usize>() -> Box<[T; N]> {
+    let words = vec![T::default(); N].into_boxed_slice();
+    words.try_into().unwrap_or_else(|_| unreachable!("N words"))
+}
 
 // As `crates/sofretu/src/lib.rt` exports them and `include/sofretu.h` declares them.
 extern "C" {
@@ -94,31 +158,25 @@ extern "C" {
     ) -> u32;
 }
 
-/// One question with all its checks: document 01's six fields, and in `store` the bytes lent back.
+/// One question with all its checks.
 ///
 /// # Safety
 ///
 /// At least 512 KB of the stack are free.
 #[inline]
-pub unsafe fn ask(
-    sheet: &[u8],
-    question: &[u8],
-    store: &mut [u8],
-    kept: u64,
-    budget: u64,
-) -> [i64; 6] {
+pub unsafe fn ask(call: Call) -> Fields {
     let mut answer = [0; 6];
     // SAFETY: all is borrowed, for reading or writing as the call has it. The stack is the caller's to see to.
     unsafe {
         sofretu_ask(
-            sheet.as_ptr(),
-            sheet.len(),
-            question.as_ptr(),
-            question.len(),
-            store.as_mut_ptr(),
-            store.len(),
-            kept,
-            budget,
+            call.sheet.as_ptr(),
+            call.sheet.len(),
+            call.question.as_ptr(),
+            call.question.len(),
+            call.store.as_mut_ptr(),
+            call.store.len(),
+            call.kept,
+            call.budget,
             &mut answer,
         );
     }
@@ -127,150 +185,133 @@ pub unsafe fn ask(
 
 /// As [`ask`], with its scratch lent.
 #[inline]
-#[allow(clippy::too_many_arguments)]
 pub fn ask_in(
-    sheet: &[u8],
-    question: &[u8],
-    store: &mut [u8],
-    kept: u64,
-    budget: u64,
-    index: &mut [u32; INDEX],
-    links: &mut [u32; LINKS],
-    frames: &mut [u64; FRAMES],
-    forms: &mut [u32; FORMS],
-) -> [i64; 6] {
+    call: Call,
+    sheet: &mut CheckedSheet,
+    store: &mut CheckedStore,
+    run: &mut Run,
+) -> Fields {
     let mut answer = [0; 6];
     // SAFETY: all is borrowed, for reading or writing as the call has it. Nothing else is required, of the scratch neither.
     unsafe {
         sofretu_ask_in(
-            sheet.as_ptr(),
-            sheet.len(),
-            question.as_ptr(),
-            question.len(),
-            store.as_mut_ptr(),
-            store.len(),
-            kept,
-            budget,
-            index,
-            links,
-            frames,
-            forms,
+            call.sheet.as_ptr(),
+            call.sheet.len(),
+            call.question.as_ptr(),
+            call.question.len(),
+            call.store.as_mut_ptr(),
+            call.store.len(),
+            call.kept,
+            call.budget,
+            &mut *sheet.index,
+            &mut *store.links,
+            &mut *run.frames,
+            &mut *run.forms,
             &mut answer,
         );
     }
     answer
 }
 
-/// The number of the first of stops 1 to 8 that holds of a sheet, or 0; and its place, the attributes and the nodes of an accepted
-/// sheet.
+/// The first of stops 1 to 8 that holds of a sheet.
 #[inline]
-pub fn check_sheet(sheet: &[u8], index: &mut [u32; INDEX]) -> (u32, [u64; 3]) {
+pub fn check_sheet(sheet: &[u8], checked: &mut CheckedSheet) -> Found {
     let mut found = [0; 3];
-    // SAFETY: `sheet` is borrowed for reading, `index` and `found` for writing. Nothing else is required.
-    let number = unsafe { sofretu_check_sheet(sheet.as_ptr(), sheet.len(), index, &mut found) };
-    (number, found)
+    // SAFETY: `sheet` is borrowed for reading, the index and `found` for writing. Nothing else is required.
+    let number = unsafe {
+        sofretu_check_sheet(sheet.as_ptr(), sheet.len(), &mut *checked.index, &mut found)
+    };
+    let [place, attributes, nodes] = found;
+    checked.attributes = attributes;
+    checked.nodes = nodes;
+    (number, place)
 }
 
-/// The number of the first of stops 9 and 10 that holds of a store, or 0; and its place. `attributes` and `nodes` are as [`check_sheet`] found them
-/// when it accepted this sheet; the C header says what other numbers mean.
+/// The first of stops 9 and 10 that holds of a store, for a sheet as [`check_sheet`] left it when it accepted these bytes; the C header says
+/// what other numbers of attributes and nodes mean.
 #[inline]
 pub fn check_store(
     sheet: &[u8],
-    attributes: u64,
-    nodes: u64,
+    checked_sheet: &CheckedSheet,
     store: &[u8],
     kept: u64,
-    links: &mut [u32; LINKS],
-) -> (u32, u64) {
+    checked: &mut CheckedStore,
+) -> Found {
     let mut place = 0;
-    // SAFETY: the bytes are borrowed for reading, `links` and `place` for writing. Nothing else is required.
+    // SAFETY: the bytes are borrowed for reading, the links and `place` for writing. Nothing else is required.
     let number = unsafe {
         sofretu_check_store(
             sheet.as_ptr(),
             sheet.len(),
-            attributes,
-            nodes,
+            checked_sheet.attributes,
+            checked_sheet.nodes,
             store.as_ptr(),
             store.len(),
             kept,
-            links,
+            &mut *checked.links,
             &mut place,
         )
     };
     (number, place)
 }
 
-/// One question to a checked sheet and a checked store: document 01's six fields, and in `store` the bytes lent back.
+/// One question to a checked sheet and a checked store.
 ///
 /// # Safety
 ///
-/// `attributes`, `nodes` and `index` are as [`check_sheet`] left them when it accepted this sheet. `links` is as [`check_store`],
-/// when it accepted this store with this `kept`, or the last question to them left it.
+/// `sheet` is as [`check_sheet`] left it when it accepted the call's sheet. `store` is as [`check_store`], when it accepted the call's
+/// store with this number kept, or the last question to them left it.
 #[inline]
-#[allow(clippy::too_many_arguments)]
 pub unsafe fn ask_checked(
-    sheet: &[u8],
-    attributes: u64,
-    nodes: u64,
-    index: &[u32; INDEX],
-    question: &[u8],
-    store: &mut [u8],
-    kept: u64,
-    budget: u64,
-    links: &mut [u32; LINKS],
-    frames: &mut [u64; FRAMES],
-    forms: &mut [u32; FORMS],
-) -> [i64; 6] {
+    call: Call,
+    sheet: &CheckedSheet,
+    store: &mut CheckedStore,
+    run: &mut Run,
+) -> Fields {
     let mut answer = [0; 6];
     // SAFETY: all is borrowed, for reading or writing as the call has it. What is required of the two indices is the caller's to
     // see to.
     unsafe {
         sofretu_ask_checked(
-            sheet.as_ptr(),
-            sheet.len(),
-            attributes,
-            nodes,
-            index,
-            question.as_ptr(),
-            question.len(),
-            store.as_mut_ptr(),
-            store.len(),
-            kept,
-            budget,
-            links,
-            frames,
-            forms,
+            call.sheet.as_ptr(),
+            call.sheet.len(),
+            sheet.attributes,
+            sheet.nodes,
+            &*sheet.index,
+            call.question.as_ptr(),
+            call.question.len(),
+            call.store.as_mut_ptr(),
+            call.store.len(),
+            call.kept,
+            call.budget,
+            &mut *store.links,
+            &mut *run.frames,
+            &mut *run.forms,
             &mut answer,
         );
     }
     answer
 }
 
-/// The number of the first of stops 1 to 13 that holds of a call, or 0; and its place.
+/// The first of stops 1 to 13 that holds of a call.
 ///
 /// # Safety
 ///
 /// As [`ask`].
 #[inline]
-pub unsafe fn check(
-    sheet: &[u8],
-    question: &[u8],
-    store: &[u8],
-    kept: u64,
-    budget: u64,
-) -> (u32, u64) {
+pub unsafe fn check(call: &Call) -> Found {
     let mut place = 0;
     // SAFETY: the bytes are borrowed for reading, `place` for writing. The stack is the caller's to see to.
     let number = unsafe {
         sofretu_check(
-            sheet.as_ptr(),
-            sheet.len(),
-            question.as_ptr(),
-            question.len(),
-            store.as_ptr(),
-            store.len(),
-            kept,
-            budget,
+            call.sheet.as_ptr(),
+            call.sheet.len(),
+            call.question.as_ptr(),
+            call.question.len(),
+            call.store.as_ptr(),
+            call.store.len(),
+            call.kept,
+            call.budget,
             &mut place,
         )
     };

@@ -2,7 +2,7 @@
 
 use std::collections::HashSet;
 
-use sofretu_sys::{check_store, LINKS};
+use sofretu_sys::{check_store, CheckedSheet, CheckedStore};
 
 /// Whether four bytes are a value of the type with this code, where so many nodes are declared.
 fn is_word(code: u8, nodes: u64, word: u32) -> bool {
@@ -54,7 +54,8 @@ impl Numbers {
 #[test]
 fn any_numbers_are_answered_as_the_header_says() {
     let mut numbers = Numbers(9);
-    let mut links = [0; LINKS];
+    let mut checked_sheet = CheckedSheet::default();
+    let mut checked = CheckedStore::default();
     let mut met = [0; 11];
     for _ in 0..40_000 {
         let sheet: Vec<u8> = (0..numbers.below(20))
@@ -78,8 +79,10 @@ fn any_numbers_are_answered_as_the_header_says() {
         let any = [0, 1, 2, 3, 33, 1_025, u64::MAX / 3, u64::MAX];
         let attributes = any[numbers.below(8) as usize];
         let nodes = any[numbers.below(8) as usize];
+        checked_sheet.attributes = attributes;
+        checked_sheet.nodes = nodes;
         let kept = numbers.below(entries + 2);
-        let found = check_store(&sheet, attributes, nodes, &store, kept, &mut links);
+        let found = check_store(&sheet, &checked_sheet, &store, kept, &mut checked);
         let expected = said(&sheet, attributes, nodes, &store, kept);
         assert_eq!(
             found, expected,

@@ -51,41 +51,45 @@ fn array(pointer: &str, element: &str, length: &str) -> String {
     format!("{pointer} [{element}; {length}]")
 }
 
-fn rattle() -> Calls {
-    // A lifetime is nothing that is passed.
-    let text = text("crates/sofretu/src/lib.rt")
-        .replace("<'a>", "")
-        .replace("&'a ", "&");
-    between(&text, "pub extern \"C\" fn ", "{")
+/// The calls whose signatures these are. `words` gives the machine words that a parameter of some type is passed in.
+fn calls(signatures: Vec<&str>, words: impl Fn(&str) -> Vec<String>) -> Calls {
+    signatures
         .into_iter()
         .map(|signature| {
             let (name, rest) = signature.split_once('(').expect("parameters");
             let (list, rest) = rest.split_once(')').expect("their end");
             let parameters = parts(list)
                 .iter()
-                .flat_map(|part| {
-                    let (_, typ) = part.split_once(": ").expect("a type");
-                    let (pointer, inner) = match typ.strip_prefix('&') {
-                        None => return vec![word(typ)],
-                        Some(inner) => match inner.strip_prefix("mut ") {
-                            Some(inner) => ("*mut", inner),
-                            None => ("*const", inner),
-                        },
-                    };
-                    match inner.strip_prefix('[').and_then(|i| i.strip_suffix(']')) {
-                        None => vec![format!("{pointer} {inner}")],
-                        Some(inner) => match inner.split_once("; ") {
-                            Some((element, length)) => {
-                                vec![array(pointer, element, &length.replace('_', ""))]
-                            }
-                            None => vec![format!("{pointer} {inner}"), "u64".into()],
-                        },
-                    }
-                })
+                .flat_map(|part| words(part.split_once(": ").expect("a type").1))
                 .collect();
             (name.into(), (parameters, result(rest)))
         })
         .collect()
+}
+
+fn rattle() -> Calls {
+    // A lifetime is nothing that is passed.
+    let text = text("crates/sofretu/src/lib.rt")
+        .replace("<'a>", "")
+        .replace("&'a ", "&");
+    calls(between(&text, "pub extern \"C\" fn ", "{"), |typ| {
+        let (pointer, inner) = match typ.strip_prefix('&') {
+            None => return vec![word(typ)],
+            Some(inner) => match inner.strip_prefix("mut ") {
+                Some(inner) => ("*mut", inner),
+                None => ("*const", inner),
+            },
+        };
+        match inner.strip_prefix('[').and_then(|i| i.strip_suffix(']')) {
+            None => vec![format!("{pointer} {inner}")],
+            Some(inner) => match inner.split_once("; ") {
+                Some((element, length)) => {
+                    vec![array(pointer, element, &length.replace('_', ""))]
+                }
+                None => vec![format!("{pointer} {inner}"), "u64".into()],
+            },
+        }
+    })
 }
 
 fn rust() -> Calls {
@@ -99,28 +103,16 @@ fn rust() -> Calls {
         .collect();
     let block = text.split("extern \"C\" {").nth(1).expect("the block");
     let block = block.split("}").next().expect("its end");
-    between(block, "fn ", ";\n")
-        .into_iter()
-        .map(|signature| {
-            let (name, rest) = signature.split_once('(').expect("parameters");
-            let (list, rest) = rest.rsplit_once(')').expect("their end");
-            let parameters = parts(list)
-                .iter()
-                .map(|part| {
-                    let (_, typ) = part.split_once(": ").expect("a type");
-                    match typ.split_once(" [") {
-                        None => word(typ),
-                        Some((pointer, inner)) => {
-                            let inner = inner.strip_suffix(']').expect("an array");
-                            let (element, length) = inner.split_once("; ").expect("its length");
-                            array(pointer, element, &number(length, &constants))
-                        }
-                    }
-                })
-                .collect();
-            (name.into(), (parameters, result(rest)))
-        })
-        .collect()
+    calls(between(block, "fn ", ";\n"), |typ| {
+        vec![match typ.split_once(" [") {
+            None => word(typ),
+            Some((pointer, inner)) => {
+                let inner = inner.strip_suffix(']').expect("an array");
+                let (element, length) = inner.split_once("; ").expect("its length");
+                array(pointer, element, &number(length, &constants))
+            }
+        }]
+    })
 }
 
 fn c() -> Calls {

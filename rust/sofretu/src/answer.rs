@@ -2,7 +2,7 @@
 
 use std::fmt;
 
-use stops::{Refusal, Stop};
+use calls::{Refusal, Stop};
 
 /// Null where a Node is written as a number.
 const NULL: u16 = 65_535;

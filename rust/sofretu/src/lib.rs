@@ -66,9 +66,9 @@ mod library;
 mod store;
 
 pub use answer::{Answer, Value};
-pub use library::{ask, check, Scratch, Session, Sheet};
 #[doc(inline)]
-pub use stops::{Origin, Refusal, Stop};
+pub use calls::{Call, Origin, Refusal, Stop};
+pub use library::{ask, check, Scratch, Session, Sheet};
 pub use store::{Store, ENTRY, MOST_ENTRIES};
 
 /// The greatest budget permitted.

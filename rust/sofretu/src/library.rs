@@ -1,8 +1,8 @@
 //! The types that keep what the library's calls require. All of the crate's `unsafe` is here.
 //!
-//! The borrows give a call what it reads and writes. One call requires more, and the private fields of [`Sheet`] and [`Session`] are how it gets
-//! it: `ask_checked` takes the sheet's index as the sheet's check left it, and the store's index as the store's check or the question before
-//! left it, for these same bytes and this same number kept.
+//! The borrows give a call what it reads and writes. One call requires more, and the private fields of [`Sheet`] and [`Session`] are how it
+//! gets it: `ask_checked` takes the checked sheet as the sheet's check left it, and the checked store as the store's check or the question
+//! before left it, for these same bytes and this same number kept.
 //!
 //! Two have their scratch on the stack, which is reached for before.
 #![allow(unsafe_code)]
@@ -11,8 +11,8 @@ use std::fmt;
 use std::hint::black_box;
 use std::mem::MaybeUninit;
 
-use sofretu_sys::{FORMS, FRAMES, INDEX, LINKS};
-use stops::{Refusal, Stop};
+use calls::{Call, Refusal, Stop};
+use sofretu_sys::{CheckedSheet, CheckedStore, Fields, Found, Run};
 
 use crate::answer::Answer;
 use crate::store::Store;
@@ -30,9 +30,7 @@ use crate::store::Store;
 #[derive(Clone)]
 pub struct Sheet<'a> {
     bytes: &'a [u8],
-    attributes: u64,
-    nodes: u64,
-    index: Box<[u32; INDEX]>,
+    checked: CheckedSheet,
 }
 
 impl<'a> Sheet<'a> {
@@ -50,15 +48,9 @@ impl<'a> Sheet<'a> {
     /// );
     /// ```
     pub fn check(bytes: &'a [u8]) -> Result<Sheet<'a>, Refusal> {
-        let mut index = zeros();
-        let (number, [place, attributes, nodes]) = sofretu_sys::check_sheet(bytes, &mut index);
-        verdict(number, place)?;
-        Ok(Sheet {
-            bytes,
-            attributes,
-            nodes,
-            index,
-        })
+        let mut checked = CheckedSheet::default();
+        verdict(sofretu_sys::check_sheet(bytes, &mut checked))?;
+        Ok(Sheet { bytes, checked })
     }
 
     /// The bytes that the sheet was read from.
@@ -68,12 +60,12 @@ impl<'a> Sheet<'a> {
 
     /// How many attributes it declares.
     pub fn attributes(&self) -> u64 {
-        self.attributes
+        self.checked.attributes
     }
 
     /// How many nodes it declares.
     pub fn nodes(&self) -> u64 {
-        self.nodes
+        self.checked.nodes
     }
 }
 
@@ -81,8 +73,8 @@ impl fmt::Debug for Sheet<'_> {
     fn fmt(&self, f: &mut fmt::Formatter) -> fmt::Result {
         f.debug_struct("Sheet")
             .field("length", &self.bytes.len())
-            .field("attributes", &self.attributes)
-            .field("nodes", &self.nodes)
+            .field("attributes", &self.attributes())
+            .field("nodes", &self.nodes())
             .finish_non_exhaustive()
     }
 }
@@ -105,60 +97,45 @@ impl fmt::Debug for Sheet<'_> {
 pub struct Session<'s, 'a> {
     sheet: &'s Sheet<'a>,
     store: &'s mut Store,
-    links: Box<[u32; LINKS]>,
-    frames: Box<[u64; FRAMES]>,
-    forms: Box<[u32; FORMS]>,
+    checked: CheckedStore,
+    run: Run,
 }
 
 impl<'s, 'a> Session<'s, 'a> {
     /// Checks the store against the sheet: stops 9 and 10.
     pub fn open(sheet: &'s Sheet<'a>, store: &'s mut Store) -> Result<Session<'s, 'a>, Refusal> {
-        let mut links = zeros();
-        let (number, place) = sofretu_sys::check_store(
+        let mut checked = CheckedStore::default();
+        verdict(sofretu_sys::check_store(
             sheet.bytes,
-            sheet.attributes,
-            sheet.nodes,
+            &sheet.checked,
             store.bytes(),
             store.kept(),
-            &mut links,
-        );
-        verdict(number, place)?;
+            &mut checked,
+        ))?;
         Ok(Session {
             sheet,
             store,
-            links,
-            frames: zeros(),
-            forms: zeros(),
+            checked,
+            run: Run::default(),
         })
     }
 
     /// The answer to one question, within a budget of counted steps. The store is left as the answer's run leaves it.
     pub fn ask(&mut self, question: &[u8], budget: u64) -> Answer {
-        let Sheet {
-            bytes,
-            attributes,
-            nodes,
-            ref index,
-        } = *self.sheet;
+        let Sheet { bytes, ref checked } = *self.sheet;
         let (store, kept) = self.store.lend();
-        // SAFETY: `index`, `attributes` and `nodes` are as the sheet's check left them, in private fields beside the bytes, which
-        // are borrowed for as long as the sheet lives. `links` is as the store's check or the question before left it: the
-        // session alone holds the store's `&mut`, and writes its bytes and its number kept here only.
-        let answer = unsafe {
-            sofretu_sys::ask_checked(
-                bytes,
-                attributes,
-                nodes,
-                index,
-                question,
-                store,
-                *kept,
-                budget,
-                &mut self.links,
-                &mut self.frames,
-                &mut self.forms,
-            )
+        let call = Call {
+            sheet: bytes,
+            question,
+            store,
+            kept: *kept,
+            budget,
         };
+        // SAFETY: the checked sheet is as the sheet's check left it, in a private field beside the bytes, which are borrowed for as long
+        // as the sheet lives. The checked store is as the store's check or the question before left it: the session alone holds the
+        // store's `&mut`, and writes its bytes and its number kept here only.
+        let answer =
+            unsafe { sofretu_sys::ask_checked(call, checked, &mut self.checked, &mut self.run) };
         *kept = answer[5] as u64;
         answered(answer)
     }
@@ -184,52 +161,28 @@ impl fmt::Debug for Session<'_, '_> {
     }
 }
 
-/// Memory for whole calls, made once: for those who lend bytes of their own and check them at every question.
-#[derive(Clone)]
+/// Memory for whole calls, made once: for those who lend bytes of their own and check them at every question. It is some 275 KB.
+#[derive(Clone, Default)]
 pub struct Scratch {
-    index: Box<[u32; INDEX]>,
-    links: Box<[u32; LINKS]>,
-    frames: Box<[u64; FRAMES]>,
-    forms: Box<[u32; FORMS]>,
+    sheet: CheckedSheet,
+    store: CheckedStore,
+    run: Run,
 }
 
 impl Scratch {
-    /// Some 275 KB.
+    /// The memory, which no call has used.
     pub fn new() -> Scratch {
-        Scratch {
-            index: zeros(),
-            links: zeros(),
-            frames: zeros(),
-            forms: zeros(),
-        }
+        Scratch::default()
     }
 
     /// As [`ask`], with this memory in place of the stack's.
-    pub fn ask(
-        &mut self,
-        sheet: &[u8],
-        store: &mut [u8],
-        kept: u64,
-        question: &[u8],
-        budget: u64,
-    ) -> Answer {
+    pub fn ask(&mut self, call: Call) -> Answer {
         answered(sofretu_sys::ask_in(
-            sheet,
-            question,
-            store,
-            kept,
-            budget,
-            &mut self.index,
-            &mut self.links,
-            &mut self.frames,
-            &mut self.forms,
+            call,
+            &mut self.sheet,
+            &mut self.store,
+            &mut self.run,
         ))
-    }
-}
-
-impl Default for Scratch {
-    fn default() -> Scratch {
-        Scratch::new()
     }
 }
 
@@ -239,29 +192,30 @@ impl fmt::Debug for Scratch {
     }
 }
 
-/// One question with all its checks, of any bytes: the answer, and in `store` what is lent back.
+/// One question with all its checks, of any bytes: the answer, and in the call's store what is lent back.
 ///
 /// It takes nothing from the heap and up to 512 KB from the stack. For more than a few questions open a [`Session`].
-pub fn ask(sheet: &[u8], store: &mut [u8], kept: u64, question: &[u8], budget: u64) -> Answer {
+///
+/// ```
+/// use sofretu::{ask, Answer, Call, Value};
+///
+/// // The shortest sheet, and a question that is a number.
+/// let call = Call { sheet: &[0x5A], question: &[0x12, 5, 0, 0, 0], store: &mut [], kept: 0, budget: 0 };
+/// assert_eq!(ask(call), Answer::Value { value: Value::Int(5), steps: 0, kept: 0 });
+/// ```
+pub fn ask(call: Call) -> Answer {
     reach_down_the_stack();
     // SAFETY: the stack was reached for.
-    answered(unsafe { sofretu_sys::ask(sheet, question, store, kept, budget) })
+    answered(unsafe { sofretu_sys::ask(call) })
 }
 
-/// Whether a call with these arguments is refused before its run: the first of stops 1 to 13 that holds.
+/// Whether a call is refused before its run: the first of stops 1 to 13 that holds. It writes nothing.
 ///
 /// It takes nothing from the heap and up to 512 KB from the stack.
-pub fn check(
-    sheet: &[u8],
-    store: &[u8],
-    kept: u64,
-    question: &[u8],
-    budget: u64,
-) -> Result<(), Refusal> {
+pub fn check(call: &Call) -> Result<(), Refusal> {
     reach_down_the_stack();
     // SAFETY: the stack was reached for.
-    let (number, place) = unsafe { sofretu_sys::check(sheet, question, store, kept, budget) };
-    verdict(number, place)
+    verdict(unsafe { sofretu_sys::check(call) })
 }
 
 /// Touches every page that a call with its scratch on the stack can need. The library's code need not touch them in order, and
@@ -272,8 +226,8 @@ fn reach_down_the_stack() {
     black_box(&room);
 }
 
-/// A check's number and place as a result.
-fn verdict(number: u32, place: u64) -> Result<(), Refusal> {
+/// What a check found as a result.
+fn verdict((number, place): Found) -> Result<(), Refusal> {
     match Stop::from_number(number) {
         Some(stop) => Err(Refusal { stop, place }),
         None => {
@@ -283,12 +237,6 @@ fn verdict(number: u32, place: u64) -> Result<(), Refusal> {
     }
 }
 
-fn answered(fields: [i64; 6]) -> Answer {
+fn answered(fields: Fields) -> Answer {
     Answer::from_fields(fields).unwrap_or_else(|| panic!("no answer of document 01: {fields:?}"))
-}
-
-/// Made on the heap from the start: some are too large to pass through the stack without thought.
-fn zeros<T: Clone + Default, const N: usize>() -> Box<[T; N]> {
-    let words = vec![T::default(); N].into_boxed_slice();
-    words.try_into().unwrap_or_else(|_| unreachable!("N words"))
 }

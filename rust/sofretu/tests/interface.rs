@@ -1,7 +1,8 @@
 //! The safe interface at work: what a session keeps, what is refused where, and that the three ways of asking agree.
 
 use sofretu::{
-    ask, check, Answer, Origin, Refusal, Scratch, Session, Sheet, Stop, Store, Value, MOST_STEPS,
+    ask, check, Answer, Call, Origin, Refusal, Scratch, Session, Sheet, Stop, Store, Value,
+    MOST_STEPS,
 };
 
 /// One Int attribute with an Int parameter, on one node: the parameter and one more.
@@ -17,6 +18,17 @@ fn after(parameter: i32) -> Vec<u8> {
     let mut question = vec![0x22, 0, 0x13, 0, 0, 0x12];
     question.extend(parameter.to_le_bytes());
     question
+}
+
+/// A call with a store that has room for nothing.
+fn within<'a>(sheet: &'a [u8], question: &'a [u8], budget: u64) -> Call<'a> {
+    Call {
+        sheet,
+        question,
+        store: &mut [],
+        kept: 0,
+        budget,
+    }
 }
 
 #[test]
@@ -97,8 +109,12 @@ fn the_ways_of_asking_agree() {
     let mut stores = [[7; 24]; 2];
     let mut kept = 0;
     for question in [after(3), after(4), vec![0x30], after(3), after(5)] {
-        let first = ask(&ONE_MORE, &mut stores[0], kept, &question, 9);
-        let second = scratch.ask(&ONE_MORE, &mut stores[1], kept, &question, 9);
+        let [first, second] = stores.each_mut().map(|store| Call {
+            store,
+            kept,
+            ..within(&ONE_MORE, &question, 9)
+        });
+        let (first, second) = (ask(first), scratch.ask(second));
         assert_eq!(first, second);
         assert_eq!(stores[0], stores[1]);
         kept = first.kept();
@@ -113,18 +129,22 @@ fn a_call_refused_before_its_run_is_refused_by_the_check() {
         stop: Stop::Command,
         place: 20,
     };
-    assert_eq!(check(cut, &[], 0, &after(0), 9), Err(refusal));
-    assert_eq!(ask(cut, &mut [], 0, &after(0), 9).value(), Err(refusal));
-    assert_eq!(check(&ONE_MORE, &[], 0, &after(0), 9), Ok(()));
+    let question = after(0);
+    assert_eq!(check(&within(cut, &question, 9)), Err(refusal));
+    assert_eq!(ask(within(cut, &question, 9)).value(), Err(refusal));
+    assert_eq!(check(&within(&ONE_MORE, &question, 9)), Ok(()));
     // What only the run can find is no matter for the check.
-    assert_eq!(check(&ONE_MORE, &[], 0, &after(0), 2), Ok(()));
-    let spent = ask(&ONE_MORE, &mut [], 0, &after(0), 2);
+    assert_eq!(check(&within(&ONE_MORE, &question, 2)), Ok(()));
+    let spent = ask(within(&ONE_MORE, &question, 2));
     assert_eq!(spent.to_string(), "15 0 0 0 2 0");
 }
 
 #[test]
 fn a_number_kept_above_every_capacity_comes_back_as_it_was_lent() {
-    let answer = ask(&ONE_MORE, &mut [], u64::MAX, &after(0), 9);
+    let answer = ask(Call {
+        kept: u64::MAX,
+        ..within(&ONE_MORE, &after(0), 9)
+    });
     assert_eq!(answer.kept(), u64::MAX);
     assert_eq!(answer.fields(), [9, 0, 0, 0, 0, -1]);
 }

@@ -13,7 +13,15 @@ const SIGABRT: i32 = 6;
 fn a_call_on_a_stack_of_128_kb() {
     thread::Builder::new()
         .stack_size(128 * 1024)
-        .spawn(|| sofretu::ask(&[0x5A], &mut [], 0, &[0x10], 0))
+        .spawn(|| {
+            sofretu::ask(sofretu::Call {
+                sheet: &[0x5A],
+                question: &[0x10],
+                store: &mut [],
+                kept: 0,
+                budget: 0,
+            })
+        })
         .expect("a thread")
         .join()
         .expect("not reached");

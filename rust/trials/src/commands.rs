@@ -1,5 +1,6 @@
 //! What the programs over engines share: files of lists, generated runs, and a list shown step by step.
 
+use std::env;
 use std::fs;
 use std::process::ExitCode;
 
@@ -113,9 +114,11 @@ pub fn replay(engines: &mut [Named], file: &str) -> Result<(), String> {
     }
 }
 
-/// The end of a program: a message says what went wrong.
-pub fn ended(done: Result<(), String>) -> ExitCode {
-    match done {
+/// A program that runs the command of its arguments. A message says what went wrong.
+pub fn main(command: impl FnOnce(&[&str]) -> Result<(), String>) -> ExitCode {
+    let arguments: Vec<String> = env::args().skip(1).collect();
+    let words: Vec<&str> = arguments.iter().map(String::as_str).collect();
+    match command(&words) {
         Ok(()) => ExitCode::SUCCESS,
         Err(message) => {
             eprintln!("{message}");

@@ -3,11 +3,12 @@
 use std::collections::{BTreeMap, BTreeSet};
 use std::fmt;
 
+use calls::Call;
 use oracle::ask::Answer;
 use oracle::store::{ENTRY, MOST_ENTRIES};
 
-use crate::case::{Ask, Case};
-use crate::engine::{Engine, Oracle};
+use crate::case::Case;
+use crate::engine::{Engine, Lent, Oracle};
 
 /// What was tried.
 #[derive(Clone, Debug, Default, PartialEq, Eq)]
@@ -95,8 +96,7 @@ impl fmt::Display for Mismatch {
 pub fn compare<E: Engine + ?Sized>(engine: &mut E, case: &Case) -> Result<Counts, Box<Mismatch>> {
     let mut oracle = Oracle::default();
     let mut counts = Counts::default();
-    let mut expected_store = case.store.clone();
-    let mut kept = case.kept;
+    let mut lent = Lent::first(case);
     let mut asks = case.asks.iter().enumerate();
     let mut mismatch = None;
     engine.list(case, &mut |answer, store| {
@@ -104,16 +104,10 @@ pub fn compare<E: Engine + ?Sized>(engine: &mut E, case: &Case) -> Result<Counts
             return;
         }
         let (question, ask) = asks.next().expect("an answer to each question");
-        let expected = oracle.ask(
-            &case.sheet,
-            &mut expected_store,
-            kept,
-            &ask.question,
-            ask.budget,
-        );
+        let expected = lent.ask(&mut oracle, &case.sheet, &ask.question, ask.budget);
         let byte = (0..store.len())
-            .find(|at| store[*at] != expected_store[*at])
-            .map(|at| (at, expected_store[at], store[at]));
+            .find(|at| store[*at] != lent.bytes[*at])
+            .map(|at| (at, lent.bytes[at], store[at]));
         if answer != expected || byte.is_some() {
             mismatch = Some(Box::new(Mismatch {
                 question,
@@ -127,7 +121,6 @@ pub fn compare<E: Engine + ?Sized>(engine: &mut E, case: &Case) -> Result<Counts
         if !(1..=10).contains(&answer.number) {
             counts.capacities.insert(store.len() / ENTRY);
         }
-        kept = answer.kept as u64;
     });
     match mismatch {
         Some(mismatch) => Err(mismatch),
@@ -139,17 +132,20 @@ pub fn compare<E: Engine + ?Sized>(engine: &mut E, case: &Case) -> Result<Counts
 }
 
 /// Puts a list to a call that checks and does not run. It must find the stops from 1 to 13 that the oracle answers with, each with its
-/// number and place, and no other.
+/// number and place, and no other; and it must leave the store as it was lent.
 pub fn compare_check(
-    mut check: impl FnMut(&[u8], &[u8], u64, &Ask) -> Result<(), (i64, i64)>,
+    mut check: impl FnMut(Call) -> Result<(), (i64, i64)>,
     case: &Case,
 ) -> Result<(), String> {
     let mut oracle = Oracle::default();
-    let mut store = case.store.clone();
-    let mut kept = case.kept;
+    let mut lent = Lent::first(case);
     for (number, ask) in case.asks.iter().enumerate() {
-        let checked = check(&case.sheet, &store, kept, ask);
-        let answer = oracle.ask(&case.sheet, &mut store, kept, &ask.question, ask.budget);
+        let mut left = lent.clone();
+        let checked = check(left.call(&case.sheet, &ask.question, ask.budget));
+        if left != lent {
+            return Err(format!("question {number}: the check writes the store"));
+        }
+        let answer = lent.ask(&mut oracle, &case.sheet, &ask.question, ask.budget);
         let expected = match answer.number {
             1..=13 => Err((answer.number, answer.place)),
             _ => Ok(()),
@@ -159,7 +155,6 @@ pub fn compare_check(
                 "question {number}: the check says {checked:?}, the oracle's answer is {answer}"
             ));
         }
-        kept = answer.kept as u64;
     }
     Ok(())
 }

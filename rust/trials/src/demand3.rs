@@ -15,15 +15,15 @@
 use std::fmt;
 use std::mem;
 
+use calls::Stop;
 use oracle::ask::{read_question, Answer, MOST_STEPS};
 use oracle::plain::{self, Ending};
 use oracle::sheet::Sheet;
 use oracle::store::{well_shaped, ENTRY, MOST_ENTRIES};
-use stops::Stop;
 
 use crate::case::{Ask, Case};
 use crate::compare::Counts;
-use crate::engine::Engine;
+use crate::engine::{Engine, Lent};
 
 /// How many steps plain Saiga is given.
 pub const PLAIN_LIMIT: u64 = 20_000;
@@ -59,27 +59,6 @@ impl fmt::Display for Violation {
     }
 }
 
-/// A store as it is lent to, or left by, a question.
-#[derive(Clone, PartialEq, Eq)]
-struct Lent {
-    bytes: Vec<u8>,
-    kept: u64,
-}
-
-impl Lent {
-    fn ask<E: Engine + ?Sized>(
-        &mut self,
-        engine: &mut E,
-        sheet: &[u8],
-        question: &[u8],
-        budget: u64,
-    ) -> Answer {
-        let answer = engine.ask(sheet, &mut self.bytes, self.kept, question, budget);
-        self.kept = answer.kept as u64;
-        answer
-    }
-}
-
 /// Tries all four parts on a list.
 pub fn demand3<E: Engine + ?Sized>(engine: &mut E, case: &Case) -> Result<Counts, Violation> {
     let sheet = Sheet::read(&case.sheet).ok();
@@ -95,10 +74,7 @@ pub fn demand3<E: Engine + ?Sized>(engine: &mut E, case: &Case) -> Result<Counts
             kept: answer.kept as u64,
         });
     });
-    let mut before = Lent {
-        bytes: case.store.clone(),
-        kept: case.kept,
-    };
+    let mut before = Lent::first(case);
     for (question, (ask, left)) in case.asks.iter().zip(lefts).enumerate() {
         let ending = claimed.as_ref().and_then(|sheet| {
             let question = read_question(&ask.question, sheet).ok()?;

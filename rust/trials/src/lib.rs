@@ -15,6 +15,7 @@ pub mod shrink;
 pub mod soak;
 pub mod write;
 
+pub use calls::Call;
 pub use case::{Ask, Case};
 pub use compare::compare;
 pub use demand3::demand3;

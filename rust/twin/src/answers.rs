@@ -1,6 +1,6 @@
 //! The answer of a call.
 
-use stops::Refusal;
+use calls::Refusal;
 
 use crate::values::Value;
 

@@ -15,9 +15,9 @@ mod stores;
 mod values;
 
 pub use answers::Answer;
+pub use calls::{Call, Refusal, Stop};
 pub use machine::{Form, Frame, Stack};
 pub use sheets::{Index, Sheet};
-pub use stops::{Refusal, Stop};
 pub use stores::{Links, Store};
 pub use values::{Base, Function, Holding, Value};
 
@@ -41,37 +41,24 @@ impl Default for Scratch {
     }
 }
 
-/// A question put to a sheet and a lent store: the answer and, in `store`, the bytes lent back. It takes some 280 KB of
+/// A question put to a sheet and a lent store: the answer and, in the call's store, the bytes lent back. It takes some 280 KB of
 /// stack.
-pub fn ask(sheet: &[u8], question: &[u8], store: &mut [u8], kept: u64, budget: u64) -> Answer {
-    ask_in(
-        sheet,
-        question,
-        store,
-        kept,
-        budget,
-        &mut Scratch::default(),
-    )
+pub fn ask(call: Call) -> Answer {
+    ask_in(call, &mut Scratch::default())
 }
 
 /// As `ask`, in lent scratch.
-pub fn ask_in(
-    sheet: &[u8],
-    question: &[u8],
-    store: &mut [u8],
-    kept: u64,
-    budget: u64,
-    scratch: &mut Scratch,
-) -> Answer {
-    let opened = Sheet::check(sheet, &mut scratch.index).and_then(|sheet| {
-        let store = Store::check(&sheet, store, kept, &mut scratch.links)?;
+pub fn ask_in(call: Call, scratch: &mut Scratch) -> Answer {
+    let opened = Sheet::check(call.sheet, &mut scratch.index).and_then(|sheet| {
+        let store = Store::check(&sheet, call.store, call.kept, &mut scratch.links)?;
         Ok((sheet, store))
     });
     match opened {
         Ok((sheet, mut store)) => {
-            ask_checked(&sheet, &mut store, question, budget, &mut scratch.stack)
+            let stack = &mut scratch.stack;
+            ask_checked(&sheet, &mut store, call.question, call.budget, stack)
         }
-        Err(refusal) => Answer::refusal(refusal, kept),
+        Err(refusal) => Answer::refusal(refusal, call.kept),
     }
 }
 
@@ -90,18 +77,10 @@ pub fn ask_checked(
 }
 
 /// The first of stops 1 to 13 that a call's arguments bring.
-pub fn check(
-    sheet: &[u8],
-    question: &[u8],
-    store: &mut [u8],
-    kept: u64,
-    budget: u64,
-    index: &mut Index,
-    links: &mut Links,
-) -> Result<(), Refusal> {
-    let sheet = Sheet::check(sheet, index)?;
-    Store::check(&sheet, store, kept, links)?;
-    check_question(&sheet, question, budget)
+pub fn check(call: Call, index: &mut Index, links: &mut Links) -> Result<(), Refusal> {
+    let sheet = Sheet::check(call.sheet, index)?;
+    Store::check(&sheet, call.store, call.kept, links)?;
+    check_question(&sheet, call.question, call.budget)
 }
 
 /// Stops 11 to 13.

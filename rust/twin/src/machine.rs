@@ -1,7 +1,7 @@
 //! The frame machine (document 01, "The steps", with stops 14 to 16): heads are read until one is a value, and values are
 //! given to frames until one has an expression to step.
 
-use stops::{Refusal, Stop};
+use calls::{Refusal, Stop};
 
 use crate::answers::Answer;
 use crate::bytes::{four, two};

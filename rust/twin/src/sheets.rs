@@ -1,6 +1,6 @@
 //! The check of a sheet (stops 1 to 8) and the index that it fills; the look-up of a definition.
 
-use stops::{Refusal, Stop};
+use calls::{Refusal, Stop};
 
 use crate::bytes::{four, two};
 use crate::expressions::{Scope, Type};

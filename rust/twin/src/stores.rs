@@ -1,6 +1,6 @@
 //! The store: its check (stops 9 and 10) with an index over the kept entries, by which an occurrence is found.
 
-use stops::{Refusal, Stop};
+use calls::{Refusal, Stop};
 
 use crate::bytes::{four, two};
 use crate::sheets::Sheet;

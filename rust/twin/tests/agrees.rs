@@ -2,26 +2,22 @@
 
 use trials::case::{read_lists, Ask, Case};
 use trials::compare::{compare_check, Counts};
+use trials::engine::Lent;
 use trials::examples::read_examples;
 use trials::generate;
-use trials::{compare, Answer, Engine};
+use trials::{compare, Answer, Call, Engine};
 use twin::{Scratch, Sheet, Store};
 
 /// The twin in scratch that earlier calls have written.
 fn lent() -> impl Engine {
     let mut scratch = Box::<Scratch>::default();
-    move |sheet: &[u8], store: &mut [u8], kept: u64, question: &[u8], budget: u64| {
-        let given = twin::ask_in(sheet, question, store, kept, budget, &mut scratch);
-        Answer::from(given.fields())
-    }
+    move |call: Call| Answer::from(twin::ask_in(call, &mut scratch).fields())
 }
 
 /// The twin's check, for `compare_check`.
-fn check(sheet: &[u8], store: &[u8], kept: u64, ask: &Ask) -> Result<(), (i64, i64)> {
+fn check(call: Call) -> Result<(), (i64, i64)> {
     let Scratch { index, links, .. } = &mut *Box::<Scratch>::default();
-    let store = &mut store.to_vec();
-    twin::check(sheet, &ask.question, store, kept, ask.budget, index, links)
-        .map_err(|refusal| (refusal.stop as i64, refusal.place as i64))
+    twin::check(call, index, links).map_err(|refusal| (refusal.stop as i64, refusal.place as i64))
 }
 
 /// The list's questions put to a sheet and a store that are checked once, beside `ask` for each.
@@ -38,14 +34,13 @@ fn checked_once(case: &Case) {
     let Ok(mut store) = Store::check(&sheet, &mut bytes, case.kept, links) else {
         return;
     };
-    let mut expected_store = case.store.clone();
-    let mut kept = case.kept;
+    let mut lent = Lent::first(case);
     for Ask { question, budget } in &case.asks {
-        let expected = twin::ask(&case.sheet, question, &mut expected_store, kept, *budget);
+        let expected = twin::ask(lent.call(&case.sheet, question, *budget));
         let given = twin::ask_checked(&sheet, &mut store, question, *budget, stack);
         assert_eq!(given, expected);
-        assert_eq!(store.entries.as_flattened(), expected_store);
-        kept = given.kept;
+        assert_eq!(store.entries.as_flattened(), lent.bytes);
+        lent.kept = given.kept;
     }
 }
 

@@ -140,11 +140,11 @@ mod tests {
     use super::super::sheets;
     use super::*;
     use oracle::sheet::Sheet;
-    use oracle::stop::Reason;
+    use std::collections::BTreeSet;
 
     #[test]
     fn every_stop_from_2_to_8_comes_of_some_fault() {
-        let mut reasons = Vec::new();
+        let mut numbers = BTreeSet::new();
         for number in 0..3_000 {
             let rng = &mut Rng::new(11, number);
             let draft = sheets::draft(rng);
@@ -154,18 +154,10 @@ mod tests {
                 spoilt(rng, draft).bytes(),
             ];
             let stops = sheets.iter().filter_map(|sheet| Sheet::read(sheet).err());
-            reasons.extend(stops.map(|stop| stop.reason));
+            numbers.extend(stops.map(|stop| stop.reason as i64));
         }
-        for reason in [
-            Reason::Command,
-            Reason::TooMany,
-            Reason::Operand,
-            Reason::SecondDefinition,
-            Reason::RuleForm,
-            Reason::RuleType,
-            Reason::NoDefinition,
-        ] {
-            assert!(reasons.contains(&reason), "{reason:?} never came");
+        for number in 2..=8 {
+            assert!(numbers.contains(&number), "{number} never came");
         }
     }
 }

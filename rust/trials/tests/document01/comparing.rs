@@ -7,7 +7,7 @@ use oracle::ask;
 use trials::case::{read_lists, Ask, Case};
 use trials::shrink::shrink;
 use trials::soak::soak;
-use trials::{compare, demand3, Answer, Oracle};
+use trials::{compare, demand3, Answer, Call, Oracle};
 
 const MOST: u64 = 1_000_000;
 
@@ -32,13 +32,19 @@ fn l_case(capacity: usize) -> Case {
     case(capacity, &[d(), d(), dial, l10(), vec![0x30], int(5)])
 }
 
-type Asked<'a> = (&'a [u8], &'a mut [u8], u64, &'a [u8], u64);
+/// The right answer to a call.
+fn right(call: &mut Call) -> Answer {
+    ask(
+        call.sheet,
+        call.store,
+        call.kept,
+        call.question,
+        call.budget,
+    )
+}
 
 /// Whether `compare` and `demand3` let an engine by on sheet L.
-fn let_by(engine: impl Fn(Asked) -> Answer) -> (bool, Option<&'static str>) {
-    let mut engine = |sheet: &[u8], store: &mut [u8], kept: u64, question: &[u8], budget: u64| {
-        engine((sheet, store, kept, question, budget))
-    };
+fn let_by(mut engine: impl FnMut(Call) -> Answer) -> (bool, Option<&'static str>) {
     let case = l_case(5);
     let compared = compare(&mut engine, &case).is_ok();
     let violated = demand3(&mut engine, &case).err();
@@ -60,69 +66,66 @@ fn the_oracle_passes_and_is_counted() {
 
 #[test]
 fn an_engine_that_always_says_700() {
-    let (compared, violated) = let_by(|_| Answer::from([0, 0, 2, 700, 8, 5]));
-    assert_eq!((compared, violated), (false, Some("demand 3 (b)")));
+    let always = |_: Call| Answer::from([0, 0, 2, 700, 8, 5]);
+    assert_eq!(let_by(always), (false, Some("demand 3 (b)")));
 }
 
 #[test]
 fn an_engine_that_turns_every_question_down() {
-    let (compared, violated) =
-        let_by(|(_, _, kept, _, _)| Answer::from([12, 0, 0, 0, 0, kept as i64]));
-    assert_eq!((compared, violated), (false, Some("demand 3 (a)")));
+    let refusing = |call: Call| Answer::from([12, 0, 0, 0, 0, call.kept as i64]);
+    assert_eq!(let_by(refusing), (false, Some("demand 3 (a)")));
 }
 
 #[test]
 fn an_engine_that_never_writes_its_store() {
-    let (compared, violated) = let_by(|(sheet, store, kept, question, budget)| {
-        let given = ask(sheet, &mut store.to_vec(), kept, question, budget);
-        Answer {
-            kept: kept as i64,
-            ..given
-        }
-    });
-    assert_eq!((compared, violated), (false, None));
+    let forgetful = |call: Call| Answer {
+        kept: call.kept as i64,
+        ..right(&mut Call {
+            store: &mut call.store.to_vec(),
+            ..call
+        })
+    };
+    assert_eq!(let_by(forgetful), (false, None));
 }
 
 #[test]
 fn an_engine_with_an_invented_step_count() {
-    let (compared, violated) = let_by(|(sheet, store, kept, question, budget)| {
-        let given = ask(sheet, store, kept, question, budget);
+    let inventing = |mut call: Call| {
+        let given = right(&mut call);
         Answer {
             steps: given.steps + 1,
             ..given
         }
-    });
-    assert_eq!((compared, violated), (false, Some("demand 3 (a)")));
+    };
+    assert_eq!(let_by(inventing), (false, Some("demand 3 (a)")));
 }
 
 #[test]
 fn engines_that_say_spent_or_depth_on_arrival() {
-    let (compared, violated) =
-        let_by(|(_, _, kept, _, _)| Answer::from([15, 0, 0, 0, 0, kept as i64]));
-    assert_eq!((compared, violated), (false, Some("demand 3 (a)")));
-    let (compared, violated) =
-        let_by(|(_, _, kept, _, _)| Answer::from([16, 0, 0, 0, 0, kept as i64]));
-    assert_eq!((compared, violated), (false, None));
+    for (number, violated) in [(15, Some("demand 3 (a)")), (16, None)] {
+        let stopping = |call: Call| Answer::from([number, 0, 0, 0, 0, call.kept as i64]);
+        assert_eq!(let_by(stopping), (false, violated));
+    }
 }
 
 #[test]
 fn an_engine_that_keeps_wrong_values() {
-    let (compared, violated) = let_by(|(sheet, store, kept, question, budget)| {
-        let given = ask(sheet, store, kept, question, budget);
+    let wrong = |mut call: Call| {
+        let given = right(&mut call);
         if given.kept == 5 {
-            store[4 * 12 + 8] ^= 1;
+            call.store[4 * 12 + 8] ^= 1;
         }
         given
-    });
-    assert_eq!((compared, violated), (false, Some("demand 3 (b)")));
+    };
+    assert_eq!(let_by(wrong), (false, Some("demand 3 (b)")));
 }
 
 #[test]
 fn an_engine_that_scribbles_past_the_kept_entries() {
-    let scribbling = |(sheet, store, kept, question, budget): Asked| {
-        let given = ask(sheet, store, kept, question, budget);
-        if let Some(last) = store.last_mut() {
-            *last = budget as u8;
+    let scribbling = |mut call: Call| {
+        let given = right(&mut call);
+        if let Some(last) = call.store.last_mut() {
+            *last = call.budget as u8;
         }
         given
     };
@@ -131,21 +134,21 @@ fn an_engine_that_scribbles_past_the_kept_entries() {
 
 #[test]
 fn an_engine_that_uses_only_small_stores() {
-    let (compared, violated) = let_by(|(sheet, store, kept, question, budget)| {
-        if store.len() > 60 {
-            let given = ask(sheet, &mut [], 0, question, budget);
-            return Answer { kept: 0, ..given };
+    let small = |mut call: Call| {
+        if call.store.len() > 60 {
+            call.store = &mut [];
+            call.kept = 0;
         }
-        ask(sheet, store, kept, question, budget)
-    });
-    assert_eq!((compared, violated), (true, Some("demand 3 (c)")));
+        right(&mut call)
+    };
+    assert_eq!(let_by(small), (true, Some("demand 3 (c)")));
 }
 
 #[test]
 fn an_engine_that_goes_beyond_plain_saiga() {
     // An attribute defined as itself, answered with 0 where depth is due.
-    let mut engine = |sheet: &[u8], store: &mut [u8], kept: u64, question: &[u8], budget: u64| {
-        let given = ask(sheet, store, kept, question, budget);
+    let mut engine = |mut call: Call| {
+        let given = right(&mut call);
         match given.number {
             16 => Answer::from([0, 0, 2, 0, given.steps, given.kept]),
             _ => given,
@@ -162,8 +165,8 @@ fn an_engine_that_goes_beyond_plain_saiga() {
 #[test]
 fn with_capacity_0_the_steps_are_plain_saigas_own() {
     // Null is met before the parameter is stepped: fewer steps than plain Saiga's 1, which demand 3 lets by.
-    let hasty = |sheet: &[u8], store: &mut [u8], kept: u64, question: &[u8], budget: u64| {
-        let given = ask(sheet, store, kept, question, budget);
+    let hasty = |mut call: Call| {
+        let given = right(&mut call);
         match given.number {
             14 | 15 => Answer::from([14, 0, 0, 0, 0, given.kept]),
             _ => given,
@@ -179,10 +182,10 @@ fn with_capacity_0_the_steps_are_plain_saigas_own() {
 
 #[test]
 fn part_d_is_tried_from_wrong_stores_and_refused_sheets_too() {
-    let by_budget = |sheet: &[u8], store: &mut [u8], kept: u64, question: &[u8], budget: u64| {
-        let given = ask(sheet, store, kept, question, budget);
+    let by_budget = |mut call: Call| {
+        let given = right(&mut call);
         Answer {
-            value: given.value + i64::from(budget > 77),
+            value: given.value + i64::from(call.budget > 77),
             ..given
         }
     };
@@ -201,10 +204,10 @@ fn part_d_is_tried_from_wrong_stores_and_refused_sheets_too() {
 
 #[test]
 fn a_mismatch_says_where_and_shrinks() {
-    let mut engine = |sheet: &[u8], store: &mut [u8], kept: u64, question: &[u8], budget: u64| {
-        let given = ask(sheet, store, kept, question, budget);
+    let mut engine = |mut call: Call| {
+        let given = right(&mut call);
         if given.value == 811 {
-            store[5 * 12] ^= 4;
+            call.store[5 * 12] ^= 4;
         }
         given
     };
@@ -225,8 +228,8 @@ fn a_mismatch_says_where_and_shrinks() {
 
 #[test]
 fn a_soak_ends_with_a_shrunk_list_that_can_be_replayed() {
-    let mut engine = |sheet: &[u8], store: &mut [u8], kept: u64, question: &[u8], budget: u64| {
-        let given = ask(sheet, store, kept, question, budget);
+    let mut engine = |mut call: Call| {
+        let given = right(&mut call);
         Answer {
             kept: given.kept + i64::from(given.number == 16),
             ..given

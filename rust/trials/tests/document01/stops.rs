@@ -124,22 +124,17 @@ fn stop_4_operands_outside_their_values() {
 
 #[test]
 fn stop_5_second_definitions() {
-    let twice = [
-        attribute(1, 0),
-        node(0),
-        figure(0, 0, 1),
-        figure(0, 0, 0),
-        end(),
-    ];
-    assert_eq!(refused(&twice.concat()), (5, 13));
-    let twice = [
-        attribute(1, 0),
-        node(0),
-        figure(0, 0, 1),
-        figure(0, 0, 2),
-        end(),
-    ];
-    assert_eq!(refused(&twice.concat()), (4, 13));
+    // A second figure that is no Bool is stop 4.
+    for (second, number) in [(0, 5), (2, 4)] {
+        let sheet = [
+            attribute(1, 0),
+            node(0),
+            figure(0, 0, 1),
+            figure(0, 0, second),
+            end(),
+        ];
+        assert_eq!(refused(&sheet.concat()), (number, 13));
+    }
     for second in [&TRUE[..], &[], &[0x20], &UNIT, &[0x10; 300]] {
         let sheet = [
             attribute(1, 0),

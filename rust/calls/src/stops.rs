@@ -1,12 +1,4 @@
-//! The stops of document 01, with words for each: the one table of the library's Rust crate, the twin and what tries them. The second
-//! evaluator has its own.
-//!
-//! It is a crate because the twin, which does not link the library, shares it with the crate that does.
-//!
-//! "Document 01" is the paper "Settings sheets evaluated by Saiga".
-#![forbid(unsafe_code)]
-#![warn(missing_docs)]
-#![cfg_attr(not(test), no_std)]
+//! The stops of document 01, with words for each.
 
 use core::error::Error;
 use core::fmt;

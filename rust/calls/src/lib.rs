@@ -1,0 +1,27 @@
+//! What a call takes, and the stops of its answer: shared by all Rust crates but the second evaluator, which has its own.
+//!
+//! It is a crate because the twin, which does not link the library, shares it with the crates that do.
+//!
+//! "Document 01" is the paper "Settings sheets evaluated by Saiga".
+#![forbid(unsafe_code)]
+#![warn(missing_docs)]
+#![cfg_attr(not(test), no_std)]
+
+mod stops;
+
+pub use stops::{Origin, Refusal, Stop};
+
+/// One question call, of any bytes and numbers.
+#[derive(Debug)]
+pub struct Call<'a> {
+    /// The sheet's bytes.
+    pub sheet: &'a [u8],
+    /// The question's bytes.
+    pub question: &'a [u8],
+    /// The store's bytes, lent for the call. They are left as the answer's run leaves them.
+    pub store: &'a mut [u8],
+    /// How many entries of the store are kept.
+    pub kept: u64,
+    /// How many counted steps the question may take.
+    pub budget: u64,
+}
