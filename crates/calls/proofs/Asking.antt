@@ -6,7 +6,7 @@ use native.Mathlib.Omega.{arith}
 use lib.ListN.{length}
 use Rattle.saiga.specs.declared.Value.the-variants.{Unit as unit}
 use Rattle.saiga.specs.Caching.{Ending, Ended}
-use Rattle.saiga.specs.Ask.{endedAnswer, runQuestion, ask}
+use Rattle.saiga.specs.Ask.{lent, asking, endedAnswer, runQuestion, ask}
 use Rattle.saiga.proofs.Calls.{Passed, passed, ask-runs}
 use Rattle.stores.specs.Keys.{Linked}
 use Rattle.engine.specs.declared.Registers.{Registers}
@@ -23,8 +23,8 @@ use Rattle.calls.specs.Askable.{Askable}
 
 module _ {sheet index : List ℕ} {attributes : ℕ} {question store links frames forms : List ℕ} {kept budget : ℕ}
     (a : Askable sheet index attributes question store links frames forms kept budget) where
-  found : Passed sheet store kept question budget (a .call)
-  found = passed sheet store kept question budget (a .accepts)
+  found : Passed sheet (lent store kept) (asking question budget) (a .call)
+  found = passed sheet (lent store kept) (asking question budget) (a .accepts)
 
   -- how the run ends
   abbrev whole : Ended
@@ -58,22 +58,26 @@ module _ {sheet index : List ℕ} {attributes : ℕ} {question store links frame
       -- the answer and the bytes of the store, and the store's index
       abbrev Brings : Answer → Type 0
       Brings answer =
-          (answerOf answer ≡ ask sheet store kept question budget .answer)
-          × ((store′ ≡ ask sheet store kept question budget .store) × Linked store′ (answerOf answer .kept) links′)
+          (answerOf answer ≡ ask sheet (lent store kept) (asking question budget) .answer)
+          × ((store′ ≡ ask sheet (lent store kept) (asking question budget) .store) × Linked store′ (answerOf answer .kept) links′)
 
       ended : {ending : Ending} {m : Registers} (answer : Answer) → Final store kept whole ending (memoryOf store′ frames′ forms′) m
-          → answerOf answer ≡ endedAnswer ending (m .steps) (m .kept) → Linked store′ (answerOf answer .kept) links′ → Brings answer
+          → answerOf answer ≡ endedAnswer whole → Linked store′ (answerOf answer .kept) links′ → Brings answer
       ended answer final is-answer index =
-          let brings = ask-runs sheet store kept question budget (a .accepts) ∙ final-outcome final in
+          let brings = ask-runs sheet (lent store kept) (asking question budget) (a .accepts) ∙ final-outcome final in
           (is-answer ∙ sym (ap (λ o. o .answer) brings), (sym (ap (λ o. o .store) brings), index))
 
       pub finished : {m : Registers} → r ≡ End.Finishes m → Brings (Value (m .value) (m .steps) (m .kept))
       unfolding answerOf endedAnswer keptBy
-      finished {m} end = ended (Value (m .value) (m .steps) (m .kept)) (rw end at (ran store kept whole begins-at)) refl (rw end at linked)
+      finished {m} end =
+          let final = rw end at (ran store kept whole begins-at) in
+          ended (Value (m .value) (m .steps) (m .kept)) final (rw (final .ending-is, final .steps-are, final .kept-are)) (rw end at linked)
 
       pub stopped : {number : ℕ} {m : Registers} → r ≡ End.Stops number m → Brings (Refusal number 0 (m .steps) (m .kept))
       unfolding answerOf endedAnswer keptBy
-      stopped {number} {m} end = let (reason, is-number, final) = rw end at (ran store kept whole begins-at) in ended (Refusal number 0 (m .steps) (m .kept)) final (rw is-number) (rw end at linked)
+      stopped {number} {m} end =
+          let (reason, is-number, final) = rw end at (ran store kept whole begins-at) in
+          ended (Refusal number 0 (m .steps) (m .kept)) final (rw (final .ending-is, is-number, final .steps-are, final .kept-are)) (rw end at linked)
 
       -- A run whose limit is its budget does not pause: it is spent there, or it ends.
       pub paused : {m : Registers} {A : Type 0} → r ≡ End.Pauses m → A

@@ -11,7 +11,7 @@ use Rattle.saiga.specs.Expressions.{Expr}
 use Rattle.saiga.specs.Sheet.{Sheet, nodeCount, attributeCount, Checked, refused, accepted, checkSheet}
 use Rattle.saiga.specs.Caching.{Entry}
 use Rattle.saiga.specs.Store.{checkStore}
-use Rattle.saiga.specs.Ask.{_then-check_, checkBudget, checkQuestion, AcceptedCall, checkCall}
+use Rattle.saiga.specs.Ask.{Lent, lent, Call, _then-check_, checkBudget, checkQuestion, AcceptedCall, checkCall}
 use Rattle.values.specs.Layout.{attributesIn}
 use Rattle.expressions.specs.declared.QuestionCheck.{QuestionCheck}
 use Rattle.expressions.specs.declared.QuestionCheck.the-variants as for-question
@@ -47,14 +47,13 @@ verdict-accepted (accepted c) e = (c, refl, cc, cc)
 
 -- ---- The budget and the question
 
-pub budget-refused : (s : Sheet) (question : List ℕ) (budget : ℕ) → 1000000 < budget
-    → for-question.Refused 11 ≡ questionOf (s .attributes) (fromBudget s question budget)
+pub budget-refused : (s : Sheet) (c : Call) → 1000000 < c .budget → for-question.Refused 11 ≡ questionOf (s .attributes) (fromBudget s c)
 unfolding checkBudget _then-check_ questionOf
-budget-refused s question budget h = rw (lt-leb budget 1000000 h)
+budget-refused s c h = rw (lt-leb (c .budget) 1000000 h)
 
-pub budget-permits : (s : Sheet) (question : List ℕ) (budget : ℕ) → budget ≤ 1000000 → fromBudget s question budget ≡ checkQuestion s question
+pub budget-permits : (s : Sheet) (c : Call) → c .budget ≤ 1000000 → fromBudget s c ≡ checkQuestion s (c .question)
 unfolding checkBudget _then-check_
-budget-permits s question budget h = rw (le-leb budget 1000000 h)
+budget-permits s c h = rw (le-leb (c .budget) 1000000 h)
 
 budget-place : (budget : ℕ) {number place : ℕ} → checkBudget budget ≡ refused number place → place ≡ 0
 unfolding checkBudget
@@ -64,22 +63,22 @@ budget-place budget {number} {place} = go (leb budget 1000000)
     go true e = other cc
     go false e = cc
 
-module _ {types : List ℕ} {attributes nodes : ℕ} (question : List ℕ) (budget : ℕ) {r : QuestionCheck}
-    (checked : (s : Sheet) → SheetOf types attributes nodes s → r ≡ questionOf (s .attributes) (fromBudget s question budget))
+module _ {types : List ℕ} {attributes nodes : ℕ} (c : Call) {r : QuestionCheck}
+    (checked : (s : Sheet) → SheetOf types attributes nodes s → r ≡ questionOf (s .attributes) (fromBudget s c))
     (s : Sheet) (of : SheetOf types attributes nodes s) where
-  pub asked-refused : {number : ℕ} → r ≡ for-question.Refused number → fromBudget s question budget ≡ refused number 0
+  pub asked-refused : {number : ℕ} → r ≡ for-question.Refused number → fromBudget s c ≡ refused number 0
   unfolding _then-check_ questionOf
-  asked-refused {number} h = go (checkBudget budget) (λ n p. budget-place budget) (sym h ∙ checked s of)
+  asked-refused {number} h = go (checkBudget (c .budget)) (λ n p. budget-place (c .budget)) (sym h ∙ checked s of)
     where
       go : (B : Checked (Unit {0})) → ((n p : ℕ) → B ≡ refused n p → p ≡ 0)
-          → for-question.Refused number ≡ questionOf (s .attributes) (B then-check λ _. checkQuestion s question)
-          → (B then-check λ _. checkQuestion s question) ≡ refused number 0
+          → for-question.Refused number ≡ questionOf (s .attributes) (B then-check λ _. checkQuestion s (c .question))
+          → (B then-check λ _. checkQuestion s (c .question)) ≡ refused number 0
       go (refused n p) at e = let zero-place = at n p refl in cc
-      go (accepted _) at e = question-refused s question (sym e)
+      go (accepted _) at e = question-refused s (c .question) (sym e)
 
-  pub asked-accepted : {code : ℕ} → r ≡ for-question.Accepted code → (e : Expr) × (fromBudget s question budget ≡ accepted e)
+  pub asked-accepted : {code : ℕ} → r ≡ for-question.Accepted code → (e : Expr) × (fromBudget s c ≡ accepted e)
   unfolding questionOf
-  asked-accepted {code} h = go (fromBudget s question budget) (sym h ∙ checked s of)
+  asked-accepted {code} h = go (fromBudget s c) (sym h ∙ checked s of)
     where
       go : (C : Checked Expr) → for-question.Accepted code ≡ questionOf (s .attributes) C → (e : Expr) × (C ≡ accepted e)
       go (refused n p) e = other cc
@@ -96,31 +95,31 @@ unfolding _then-check_
 then-assoc (refused number place) f g = refl
 then-assoc (accepted x) f g = refl
 
-pub from-store : (s : Sheet) (store : List ℕ) (kept : ℕ) (question : List ℕ) (budget : ℕ) {entries : List Entry} → checkStore s store kept ≡ accepted entries
-    → fromStore s store kept question budget ≡ withQuestion s entries (fromBudget s question budget)
+pub from-store : (s : Sheet) (m : Lent) (c : Call) {entries : List Entry} → checkStore s (m .store) (m .kept) ≡ accepted entries
+    → fromStore s m c ≡ withQuestion s entries (fromBudget s c)
 unfolding _then-check_
-from-store s store kept question budget {entries} passes =
-    rw passes (then-assoc (checkBudget budget) (λ _. checkQuestion s question) (λ e. accepted record { sheet = s; entries = entries; question = e }))
+from-store s m c {entries} passes =
+    rw passes (then-assoc (checkBudget (c .budget)) (λ _. checkQuestion s (c .question)) (λ e. accepted record { sheet = s; entries = entries; question = e }))
 
-pub from-sheet : (sheet store : List ℕ) (kept : ℕ) (question : List ℕ) (budget : ℕ) {s : Sheet} → checkSheet sheet ≡ accepted s
-    → checkCall sheet store kept question budget ≡ fromStore s store kept question budget
+pub from-sheet : (sheet : List ℕ) (m : Lent) (c : Call) {s : Sheet} → checkSheet sheet ≡ accepted s
+    → checkCall sheet m c ≡ fromStore s m c
 unfolding checkCall _then-check_
-from-sheet sheet store kept question budget accepts = rw accepts
+from-sheet sheet m c accepts = rw accepts
 
-pub refused-by-sheet : (sheet store : List ℕ) (kept : ℕ) (question : List ℕ) (budget : ℕ) {number place : ℕ} → checkSheet sheet ≡ refused number place
-    → checkCall sheet store kept question budget ≡ refused number place
+pub refused-by-sheet : (sheet : List ℕ) (m : Lent) (c : Call) {number place : ℕ} → checkSheet sheet ≡ refused number place
+    → checkCall sheet m c ≡ refused number place
 unfolding checkCall _then-check_
-refused-by-sheet sheet store kept question budget refuses = rw refuses
+refused-by-sheet sheet m c refuses = rw refuses
 
 -- ---- The store
 
-module _ {types : List ℕ} {attributes nodes : ℕ} {store : List ℕ} {kept : ℕ} (question : List ℕ) (budget : ℕ) {links : List ℕ} {r : StoreCheck}
+module _ {types : List ℕ} {attributes nodes : ℕ} {store : List ℕ} {kept : ℕ} (c : Call) {links : List ℕ} {r : StoreCheck}
     (checked : StoreChecked types attributes nodes store kept links r) where
   answer-is : (s : Sheet) → SheetOf types attributes nodes s → r ≡ storeCheckOf (checkStore s store kept)
   answer-is s of = checked .answer s (of .attributes-are) (of .nodes-count)
 
   pub store-stops : {number place : ℕ} → r ≡ for-store.Refused number place
-      → FromStore types attributes nodes store kept question budget links (Refused number place)
+      → FromStore types attributes nodes (lent store kept) c links (Refused number place)
   unfolding storeCheckOf verdictOf _then-check_
   store-stops {number} {place} h =
       record {
@@ -130,13 +129,13 @@ module _ {types : List ℕ} {attributes nodes : ℕ} {store : List ℕ} {kept : 
       }
     where
       go : (s : Sheet) (C : Checked (List Entry)) → r ≡ storeCheckOf C
-          → Refused number place ≡ verdictOf (C then-check λ entries. checkBudget budget then-check λ _. checkQuestion s question then-check λ e. accepted record { sheet = s; entries = entries; question = e })
+          → Refused number place ≡ verdictOf (C then-check λ entries. checkBudget (c .budget) then-check λ _. checkQuestion s (c .question) then-check λ e. accepted record { sheet = s; entries = entries; question = e })
       go s (refused n p) e = cc
       go s (accepted entries) e = other cc
 
   -- the verdict on a store that passes is the question's
   module _ (passes : r ≡ for-store.Accepted) {q : QuestionCheck}
-      (asks : (s : Sheet) → SheetOf types attributes nodes s → q ≡ questionOf (s .attributes) (fromBudget s question budget)) where
+      (asks : (s : Sheet) → SheetOf types attributes nodes s → q ≡ questionOf (s .attributes) (fromBudget s c)) where
     entries-of : (s : Sheet) → SheetOf types attributes nodes s → (entries : List Entry) × (checkStore s store kept ≡ accepted entries)
     unfolding storeCheckOf
     entries-of s of = go (checkStore s store kept) (sym passes ∙ answer-is s of)
@@ -146,21 +145,21 @@ module _ {types : List ℕ} {attributes nodes : ℕ} {store : List ℕ} {kept : 
         go (accepted entries) e = (entries, refl)
 
     pub question-stops : {number : ℕ} → q ≡ for-question.Refused number
-        → FromStore types attributes nodes store kept question budget links (Refused number 0)
+        → FromStore types attributes nodes (lent store kept) c links (Refused number 0)
     unfolding verdictOf _then-check_
     question-stops h =
         record {
-          answer = λ s of. rw (from-store s store kept question budget (entries-of s of .1), asked-refused question budget asks s of h);
+          answer = λ s of. rw (from-store s (lent store kept) c (entries-of s of .1), asked-refused c asks s of h);
           links-length = checked .size;
           linked = λ s of entries e. checked .linked passes;
         }
 
     pub question-passes : {code : ℕ} → q ≡ for-question.Accepted code
-        → FromStore types attributes nodes store kept question budget links (Accepted attributes nodes)
+        → FromStore types attributes nodes (lent store kept) c links (Accepted attributes nodes)
     unfolding verdictOf _then-check_
     question-passes h =
         record {
-          answer = λ s of. rw (from-store s store kept question budget (entries-of s of .1), asked-accepted question budget asks s of h .1, of .attributes-count, of .nodes-count);
+          answer = λ s of. rw (from-store s (lent store kept) c (entries-of s of .1), asked-accepted c asks s of h .1, of .attributes-count, of .nodes-count);
           links-length = checked .size;
           linked = λ s of entries e. checked .linked passes;
         }
@@ -214,14 +213,14 @@ module _ {sheet index : List ℕ} {r : SheetCheck} (checked : Checks sheet r ind
       go (refused n p) e = let same : for-sheet.Refused n p ≡ for-sheet.Refused number place = sym e ∙ is in cc
       go (accepted s) e = other cc
 
-  module _ (store : List ℕ) (kept : ℕ) (question : List ℕ) (budget : ℕ) {links : List ℕ} where
+  module _ (m : Lent) (c : Call) {links : List ℕ} where
     pub sheet-stops : {number place : ℕ} → r ≡ for-sheet.Refused number place → length links ≡ 2048
-        → CallChecked sheet store kept question budget index links (Refused number place)
+        → CallChecked sheet m c index links (Refused number place)
     unfolding verdictOf
     sheet-stops {number} {place} h links-size =
         let is = sheet-refused h in
         record {
-          answer = ap verdictOf (sym (refused-by-sheet sheet store kept question budget is));
+          answer = ap verdictOf (sym (refused-by-sheet sheet m c is));
           scratch = record {
             index-length = checked .size;
             indexed = checked .indexes;
@@ -231,11 +230,11 @@ module _ {sheet index : List ℕ} {r : SheetCheck} (checked : Checks sheet r ind
         }
 
     pub sheet-passes : {attributes nodes : ℕ} {v : Verdict} → r ≡ for-sheet.Accepted attributes nodes
-        → FromStore sheet attributes nodes store kept question budget links v → CallChecked sheet store kept question budget index links v
+        → FromStore sheet attributes nodes m c links v → CallChecked sheet m c index links v
     sheet-passes h rest =
         let p = sheet-prepared h in
         record {
-          answer = rest .answer (p .of) (sheet-of p) ∙ ap verdictOf (sym (from-sheet sheet store kept question budget (p .accepts)));
+          answer = rest .answer (p .of) (sheet-of p) ∙ ap verdictOf (sym (from-sheet sheet m c (p .accepts)));
           scratch = record {
             index-length = checked .size;
             indexed = checked .indexes;

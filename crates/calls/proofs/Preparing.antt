@@ -8,8 +8,8 @@ use Rattle.saiga.specs.Expressions.{Expr}
 use Rattle.saiga.specs.Sheet.{Sheet, Checked, refused, accepted, checkSheet}
 use Rattle.saiga.specs.Caching.{Entry}
 use Rattle.saiga.specs.Store.{checkStore}
-use Rattle.saiga.specs.Ask.{refusal, _then-check_, AcceptedCall, checkCall, ask}
-use Rattle.saiga.specs.Calls.{call, leaves}
+use Rattle.saiga.specs.Ask.{Lent, lent, Call, asking, refusal, _then-check_, AcceptedCall, checkCall, ask}
+use Rattle.saiga.specs.Calls.{leaves}
 use Rattle.saiga.proofs.Calls.{ask-refuses, passed, left-store-passes}
 use Rattle.expressions.specs.declared.QuestionCheck.{QuestionCheck}
 use Rattle.expressions.specs.declared.QuestionCheck.the-variants as for-question
@@ -27,15 +27,14 @@ use Rattle.calls.specs.Askable.{Askable, RunScratch}
 -- ---- A refusal
 
 -- the answer of a refusal is the same whatever the store's bytes are, and leaves them
-pub refuses : (sheet store question : List ℕ) (kept budget : ℕ) {number place : ℕ} (r : Answer) → checkCall sheet store kept question budget ≡ refused number place
-    → answerOf r ≡ refusal [] kept number place .answer
-    → (answerOf r ≡ ask sheet store kept question budget .answer) × (store ≡ ask sheet store kept question budget .store)
+pub refuses : (sheet : List ℕ) (m : Lent) (c : Call) {number place : ℕ} (r : Answer) → checkCall sheet m c ≡ refused number place
+    → answerOf r ≡ refusal (lent [] (m .kept)) number place .answer → (answerOf r ≡ ask sheet m c .answer) × (m .store ≡ ask sheet m c .store)
 unfolding refusal
-refuses sheet store question kept budget r stops answer =
-    let is = ask-refuses sheet store kept question budget stops in
+refuses sheet m c r stops answer =
+    let is = ask-refuses sheet m c stops in
     (answer ∙ sym (ap (λ o. o .answer) is), sym (ap (λ o. o .store) is))
 
-pub refusal-keeps : (kept number place : ℕ) (r : Answer) → answerOf r ≡ refusal [] kept number place .answer → answerOf r .kept ≡ kept
+pub refusal-keeps : (kept number place : ℕ) (r : Answer) → answerOf r ≡ refusal (lent [] kept) number place .answer → answerOf r .kept ≡ kept
 unfolding refusal
 refusal-keeps kept number place r is = ap (λ a. a .kept) is
 
@@ -53,18 +52,18 @@ module _ {checked : Checked AcceptedCall} {frames forms : List ℕ} where
 -- ---- A call of which nothing was checked before
 
 module _ {sheet index question store links : List ℕ} {kept budget : ℕ} {r : Verdict}
-    (checked : CallChecked sheet store kept question budget index links r) where
-  pub checked-refused : {number place : ℕ} → r ≡ Refused number place → checkCall sheet store kept question budget ≡ refused number place
-  checked-refused is = verdict-refused (checkCall sheet store kept question budget) (sym (checked .answer) ∙ is)
+    (checked : CallChecked sheet (lent store kept) (asking question budget) index links r) where
+  pub checked-refused : {number place : ℕ} → r ≡ Refused number place → checkCall sheet (lent store kept) (asking question budget) ≡ refused number place
+  checked-refused is = verdict-refused (checkCall sheet (lent store kept) (asking question budget)) (sym (checked .answer) ∙ is)
 
-  pub checked-accepts : {attributes nodes : ℕ} → r ≡ Accepted attributes nodes → (c : AcceptedCall) × (checkCall sheet store kept question budget ≡ accepted c)
-  checked-accepts is = let (c, accepts, _, _) = verdict-accepted (checkCall sheet store kept question budget) (sym (checked .answer) ∙ is) in (c, accepts)
+  pub checked-accepts : {attributes nodes : ℕ} → r ≡ Accepted attributes nodes → (c : AcceptedCall) × (checkCall sheet (lent store kept) (asking question budget) ≡ accepted c)
+  checked-accepts is = let (c, accepts, _, _) = verdict-accepted (checkCall sheet (lent store kept) (asking question budget)) (sym (checked .answer) ∙ is) in (c, accepts)
 
   pub checked-askable : {attributes nodes : ℕ} {frames forms : List ℕ} → r ≡ Accepted attributes nodes → length frames ≡ 16640 → length forms ≡ 256
       → Askable sheet index attributes question store links frames forms kept budget
   checked-askable is frames-length forms-length =
-      let (c, accepts, count, _) = verdict-accepted (checkCall sheet store kept question budget) (sym (checked .answer) ∙ is) in
-      let found = passed sheet store kept question budget accepts in
+      let (c, accepts, count, _) = verdict-accepted (checkCall sheet (lent store kept) (asking question budget)) (sym (checked .answer) ∙ is) in
+      let found = passed sheet (lent store kept) (asking question budget) accepts in
       record {
         call = c;
         accepts = accepts;
@@ -95,20 +94,20 @@ module _ {sheet index : List ℕ} {attributes nodes : ℕ} (p : PreparedSheet sh
   passes : checkStore (p .of) store kept ≡ accepted entries
   passes = q .passes (p .of) (p .accepts) .1
 
-  chain : checkCall sheet store kept question budget ≡ (fromBudget (p .of) question budget then-check λ e. accepted record { sheet = p .of; entries = entries; question = e })
-  chain = from-sheet sheet store kept question budget (p .accepts) ∙ from-store (p .of) store kept question budget passes
+  chain : checkCall sheet (lent store kept) (asking question budget) ≡ (fromBudget (p .of) (asking question budget) then-check λ e. accepted record { sheet = p .of; entries = entries; question = e })
+  chain = from-sheet sheet (lent store kept) (asking question budget) (p .accepts) ∙ from-store (p .of) (lent store kept) (asking question budget) passes
 
   module _ {r : QuestionCheck}
-      (checked : (s : Sheet) → SheetOf sheet attributes nodes s → r ≡ questionOf (s .attributes) (fromBudget s question budget)) where
-    pub question-refused : {number : ℕ} → r ≡ for-question.Refused number → checkCall sheet store kept question budget ≡ refused number 0
+      (checked : (s : Sheet) → SheetOf sheet attributes nodes s → r ≡ questionOf (s .attributes) (fromBudget s (asking question budget))) where
+    pub question-refused : {number : ℕ} → r ≡ for-question.Refused number → checkCall sheet (lent store kept) (asking question budget) ≡ refused number 0
     unfolding _then-check_
-    question-refused is = chain ∙ rw (asked-refused question budget checked (p .of) (sheet-of p) is)
+    question-refused is = chain ∙ rw (asked-refused (asking question budget) checked (p .of) (sheet-of p) is)
 
     pub question-accepts : {code : ℕ} → r ≡ for-question.Accepted code
-        → (e : Expr) × (checkCall sheet store kept question budget ≡ accepted record { sheet = p .of; entries = entries; question = e })
+        → (e : Expr) × (checkCall sheet (lent store kept) (asking question budget) ≡ accepted record { sheet = p .of; entries = entries; question = e })
     unfolding _then-check_
     question-accepts is =
-        let (e, asks) = asked-accepted question budget checked (p .of) (sheet-of p) is in
+        let (e, asks) = asked-accepted (asking question budget) checked (p .of) (sheet-of p) is in
         (e, chain ∙ rw asks)
 
     pub askable : {frames forms : List ℕ} {code : ℕ} → r ≡ for-question.Accepted code → length frames ≡ 16640 → length forms ≡ 256
@@ -126,11 +125,11 @@ module _ {sheet index : List ℕ} {attributes nodes : ℕ} (p : PreparedSheet sh
         }
 
   -- What a call leaves is prepared for the next.
-  pub prepared-again : {store′ links′ : List ℕ} (answer : Answer) → answerOf answer ≡ ask sheet store kept question budget .answer
-      → store′ ≡ ask sheet store kept question budget .store → Linked store′ (answerOf answer .kept) links′
+  pub prepared-again : {store′ links′ : List ℕ} (answer : Answer) → answerOf answer ≡ ask sheet (lent store kept) (asking question budget) .answer
+      → store′ ≡ ask sheet (lent store kept) (asking question budget) .store → Linked store′ (answerOf answer .kept) links′
       → PreparedStore sheet store′ (answerOf answer .kept) links′
-  unfolding leaves call
+  unfolding leaves
   prepared-again {store′} answer is left linked =
       let after : (entries : List Entry) × (checkStore (p .of) store′ (answerOf answer .kept) ≡ accepted entries) =
-      rw (left, is) (left-store-passes sheet (p .of) (p .accepts) record { store = store; kept = kept } entries passes record { question = question; budget = budget }) in
+      rw (left, is) (left-store-passes sheet (p .of) (p .accepts) (lent store kept) entries passes (asking question budget)) in
       record { passes = λ s e. rw (same-sheet p s e) at after; linked = linked }

@@ -5,14 +5,14 @@ use mathlib.Core.Path.{_≡_}
 use Prim.Native.Nat.{ℕ}
 use lib.ListN.{length}
 use Rattle.saiga.specs.Sheet.{attributeCount, Checked, refused, accepted}
-use Rattle.saiga.specs.Ask.{AcceptedCall, checkCall}
+use Rattle.saiga.specs.Ask.{lent, asking, AcceptedCall, checkCall}
 use Rattle.sheets.specs.Scan.{Indexed}
 use Rattle.stores.specs.Keys.{Linked}
 
 -- An accepted call, with its indexes, and memory for the frames and the forms.
 pub record Askable (sheet index : List ℕ) (attributes : ℕ) (question store links frames forms : List ℕ) (kept budget : ℕ) : Type 0 where
   pub call : AcceptedCall
-  pub accepts : checkCall sheet store kept question budget ≡ accepted call
+  pub accepts : checkCall sheet (lent store kept) (asking question budget) ≡ accepted call
   pub index-of : Indexed sheet (call .sheet) index
   pub attributes-are : attributeCount (call .sheet) ≡ attributes
   pub linked : Linked store kept links

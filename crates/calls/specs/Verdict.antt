@@ -7,7 +7,7 @@ use Rattle.saiga.specs.Expressions.{Expr}
 use Rattle.saiga.specs.Sheet.{Sheet, nodeCount, attributeCount, Checked, refused, accepted, checkSheet}
 use Rattle.saiga.specs.Caching.{Entry}
 use Rattle.saiga.specs.Store.{checkStore}
-use Rattle.saiga.specs.Ask.{_then-check_, checkBudget, checkQuestion, AcceptedCall, checkCall}
+use Rattle.saiga.specs.Ask.{Lent, Call, _then-check_, checkBudget, checkQuestion, AcceptedCall, checkCall}
 use Rattle.values.specs.Layout.{attributesIn}
 use Rattle.sheets.specs.Scan.{Indexed}
 use Rattle.stores.specs.Keys.{Linked}
@@ -28,21 +28,22 @@ pub record SheetOf (types : List ℕ) (attributes nodes : ℕ) (s : Sheet) : Typ
   pub nodes-count : nodeCount s ≡ nodes
 
 -- stops 11 to 13
-abbrev pub fromBudget : Sheet → List ℕ → ℕ → Checked Expr
-fromBudget s question budget = checkBudget budget then-check λ _. checkQuestion s question
+abbrev pub fromBudget : Sheet → Call → Checked Expr
+fromBudget s c = checkBudget (c .budget) then-check λ _. checkQuestion s (c .question)
 
 -- stops 9 to 13
-abbrev pub fromStore : Sheet → List ℕ → ℕ → List ℕ → ℕ → Checked AcceptedCall
-fromStore s store kept question budget =
-    checkStore s store kept then-check λ entries.
-    checkBudget budget then-check λ _.
-    checkQuestion s question then-check λ e.
+abbrev pub fromStore : Sheet → Lent → Call → Checked AcceptedCall
+fromStore s m c =
+    checkStore s (m .store) (m .kept) then-check λ entries.
+    checkBudget (c .budget) then-check λ _.
+    checkQuestion s (c .question) then-check λ e.
     accepted record { sheet = s; entries = entries; question = e }
 
-pub record FromStore (types : List ℕ) (attributes nodes : ℕ) (store : List ℕ) (kept : ℕ) (question : List ℕ) (budget : ℕ) (links : List ℕ) (r : Verdict) : Type 0 where
-  pub answer : (s : Sheet) → SheetOf types attributes nodes s → r ≡ verdictOf (fromStore s store kept question budget)
+pub record FromStore (types : List ℕ) (attributes nodes : ℕ) (m : Lent) (c : Call) (links : List ℕ) (r : Verdict) : Type 0 where
+  pub answer : (s : Sheet) → SheetOf types attributes nodes s → r ≡ verdictOf (fromStore s m c)
   pub links-length : length links ≡ 2048
-  pub linked : (s : Sheet) → SheetOf types attributes nodes s → (entries : List Entry) → checkStore s store kept ≡ accepted entries → Linked store kept links
+  pub linked : (s : Sheet) → SheetOf types attributes nodes s → (entries : List Entry) → checkStore s (m .store) (m .kept) ≡ accepted entries
+      → Linked (m .store) (m .kept) links
 
 -- ---- The check of a call
 
@@ -54,6 +55,6 @@ pub record Indexes (sheet store : List ℕ) (kept : ℕ) (index links : List ℕ
   pub links-length : length links ≡ 2048
   pub linked : (s : Sheet) → checkSheet sheet ≡ accepted s → (entries : List Entry) → checkStore s store kept ≡ accepted entries → Linked store kept links
 
-pub record CallChecked (sheet store : List ℕ) (kept : ℕ) (question : List ℕ) (budget : ℕ) (index links : List ℕ) (r : Verdict) : Type 0 where
-  pub answer : r ≡ verdictOf (checkCall sheet store kept question budget)
-  pub scratch : Indexes sheet store kept index links
+pub record CallChecked (sheet : List ℕ) (m : Lent) (c : Call) (index links : List ℕ) (r : Verdict) : Type 0 where
+  pub answer : r ≡ verdictOf (checkCall sheet m c)
+  pub scratch : Indexes sheet (m .store) (m .kept) index links

@@ -6,6 +6,7 @@ ghost use mathlib.Core.Path.{_≡_};
 ghost use Prim.Native.Nat.{_*_, _≤_};
 ghost use lib.ListN.{length};
 ghost use Rattle.saiga.specs.Sheet.{Sheet};
+ghost use Rattle.saiga.specs.Ask.{lent, asking};
 ghost use Rattle.calls.specs.Verdict.{SheetOf, fromBudget, FromStore, CallChecked};
 ghost use Rattle.expressions.specs.Forms.{questionOf};
 
@@ -24,7 +25,7 @@ pub fn check_question(
     budget: usize,
 ) -> QuestionCheck
     requires { ⌜ 3 * attributes ≤ length (now sheet) ⌝ }
-    ensures { λ r. ⌜ ((s : Sheet) → SheetOf (now (sheet .entry)) attributes nodes s → r ≡ questionOf (s .attributes) (fromBudget s (now (question .entry)) budget)) ⌝ }
+    ensures { λ r. ⌜ ((s : Sheet) → SheetOf (now (sheet .entry)) attributes nodes s → r ≡ questionOf (s .attributes) (fromBudget s (asking (now (question .entry)) budget))) ⌝ }
 {
     if 1000000 < budget {
         return QuestionCheck::Refused(11);
@@ -44,7 +45,7 @@ fn check_from_store(
     links: &mut [u32],
 ) -> Verdict
     requires { ⌜ (3 * attributes ≤ length (now sheet)) × (length (now links) ≡ 2048) ⌝ }
-    ensures { λ r. ⌜ FromStore (now (sheet .entry)) attributes nodes (now (store .entry)) kept (now (question .entry)) budget (now (links .exit)) r ⌝ }
+    ensures { λ r. ⌜ FromStore (now (sheet .entry)) attributes nodes (lent (now (store .entry)) kept) (asking (now (question .entry)) budget) (now (links .exit)) r ⌝ }
 {
     match stores::check(sheet, attributes, nodes, store, kept, links) {
         StoreCheck::Refused(number, place) => Verdict::Refused(number, place),
@@ -65,7 +66,7 @@ pub fn check(
     index: &mut [u32; 33280],
     links: &mut [u32; 2048],
 ) -> Verdict
-    ensures { λ r. ⌜ CallChecked (now (sheet .entry)) (now (store .entry)) kept (now (question .entry)) budget (now (index .exit)) (now (links .exit)) r ⌝ }
+    ensures { λ r. ⌜ CallChecked (now (sheet .entry)) (lent (now (store .entry)) kept) (asking (now (question .entry)) budget) (now (index .exit)) (now (links .exit)) r ⌝ }
 {
     let chains: &mut [u32] = links;
     match sheets::check(sheet, index) {

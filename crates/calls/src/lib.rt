@@ -10,7 +10,7 @@ use saiga::Value;
 ghost use mathlib.Core.List.{[]};
 ghost use mathlib.Core.Path.{_≡_};
 ghost use Rattle.saiga.specs.declared.Value.the-variants.{Unit as unit};
-ghost use Rattle.saiga.specs.Ask.{refusal, checkCall, ask as called};
+ghost use Rattle.saiga.specs.Ask.{lent, asking, refusal, checkCall, ask as called};
 ghost use Rattle.stores.specs.Keys.{Linked};
 ghost use Rattle.calls.specs.Answers.{answerOf};
 ghost use Rattle.engine.specs.Loop.{started};
@@ -26,7 +26,7 @@ pub enum Answer {
 
 // The answer of a call that is refused before its run: no steps, and what was kept stays.
 pub fn refuse(number: u32, place: usize, kept: usize) -> Answer
-    ensures { λ r. ⌜ answerOf r ≡ refusal [] kept number place .answer ⌝ }
+    ensures { λ r. ⌜ answerOf r ≡ refusal (lent [] kept) number place .answer ⌝ }
 {
     Answer::Refusal(number, place, 0, kept)
 }
@@ -61,8 +61,8 @@ fn put<'a>(
     budget: usize,
 ) -> Answer
     requires { ⌜ Askable (now sheet) (now index) attributes (now question) (now store) (now links) (now frames) (now forms) kept budget ⌝ }
-    ensures { λ r. ⌜ answerOf r ≡ called (now (sheet .entry)) (now (store .entry)) kept (now (question .entry)) budget .answer ⌝ }
-    ensures { λ _. ⌜ now (store .exit) ≡ called (now (sheet .entry)) (now (store .entry)) kept (now (question .entry)) budget .store ⌝ }
+    ensures { λ r. ⌜ answerOf r ≡ called (now (sheet .entry)) (lent (now (store .entry)) kept) (asking (now (question .entry)) budget) .answer ⌝ }
+    ensures { λ _. ⌜ now (store .exit) ≡ called (now (sheet .entry)) (lent (now (store .entry)) kept) (asking (now (question .entry)) budget) .store ⌝ }
     ensures { λ r. ⌜ Linked (now (store .exit)) (answerOf r .kept) (now (links .exit)) ⌝ }
 {
     let first = begin(question, kept);
@@ -106,10 +106,10 @@ pub fn ask_checked<'a>(
 ) -> Answer
     requires { ⌜ PreparedSheet (now sheet) (now index) attributes nodes ⌝ }
     requires { ⌜ PreparedStore (now sheet) (now store) kept (now links) ⌝ }
-    ensures { λ r. ⌜ answerOf r ≡ called (now (sheet .entry)) (now (store .entry)) kept (now (question .entry)) budget .answer ⌝ }
-    ensures { λ _. ⌜ now (store .exit) ≡ called (now (sheet .entry)) (now (store .entry)) kept (now (question .entry)) budget .store ⌝ }
+    ensures { λ r. ⌜ answerOf r ≡ called (now (sheet .entry)) (lent (now (store .entry)) kept) (asking (now (question .entry)) budget) .answer ⌝ }
+    ensures { λ _. ⌜ now (store .exit) ≡ called (now (sheet .entry)) (lent (now (store .entry)) kept) (asking (now (question .entry)) budget) .store ⌝ }
     ensures { λ r. ⌜ PreparedStore (now (sheet .entry)) (now (store .exit)) (answerOf r .kept) (now (links .exit)) ⌝ }
-    ensures { λ _. ⌜ RunScratch (checkCall (now (sheet .entry)) (now (store .entry)) kept (now (question .entry)) budget)
+    ensures { λ _. ⌜ RunScratch (checkCall (now (sheet .entry)) (lent (now (store .entry)) kept) (asking (now (question .entry)) budget))
         (now (frames .entry)) (now (forms .entry)) (now (frames .exit)) (now (forms .exit)) ⌝ }
 {
     let words: &mut [u64] = frames;
@@ -143,10 +143,10 @@ pub fn ask<'a>(
     frames: &mut [u64; 16640],
     forms: &mut [u32; 256],
 ) -> Answer
-    ensures { λ r. ⌜ answerOf r ≡ called (now (sheet .entry)) (now (store .entry)) kept (now (question .entry)) budget .answer ⌝ }
-    ensures { λ _. ⌜ now (store .exit) ≡ called (now (sheet .entry)) (now (store .entry)) kept (now (question .entry)) budget .store ⌝ }
+    ensures { λ r. ⌜ answerOf r ≡ called (now (sheet .entry)) (lent (now (store .entry)) kept) (asking (now (question .entry)) budget) .answer ⌝ }
+    ensures { λ _. ⌜ now (store .exit) ≡ called (now (sheet .entry)) (lent (now (store .entry)) kept) (asking (now (question .entry)) budget) .store ⌝ }
     ensures { λ r. ⌜ Indexes (now (sheet .entry)) (now (store .exit)) (answerOf r .kept) (now (index .exit)) (now (links .exit)) ⌝ }
-    ensures { λ _. ⌜ RunScratch (checkCall (now (sheet .entry)) (now (store .entry)) kept (now (question .entry)) budget)
+    ensures { λ _. ⌜ RunScratch (checkCall (now (sheet .entry)) (lent (now (store .entry)) kept) (asking (now (question .entry)) budget))
         (now (frames .entry)) (now (forms .entry)) (now (frames .exit)) (now (forms .exit)) ⌝ }
 {
     let words: &mut [u64] = frames;

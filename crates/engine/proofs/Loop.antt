@@ -18,7 +18,7 @@ use Rattle.saiga.specs.Caching.{Entry, Due, State, Ending, with-value, Reason, 
 use Rattle.saiga.specs.Runs.{Runs}
 use Rattle.saiga.specs.Store.{checkStore, entriesBytes, leftStore}
 use Rattle.saiga.specs.Expressions.{Expr, Whole, no-expression, readWhole}
-use Rattle.saiga.specs.Ask.{checkType, checkQuestion, asked, reasonNumber, endedAnswer, outcome, runQuestion}
+use Rattle.saiga.specs.Ask.{lent, checkType, checkQuestion, asked, reasonNumber, endedAnswer, outcome, runQuestion}
 use Rattle.saiga.specs.Sound.{RunningIn, EntryIn, All}
 use Rattle.saiga.proofs.Accepted.{accepted-sheet}
 use Rattle.saiga.proofs.Entries.{store-in}
@@ -256,8 +256,8 @@ module _ {sheet index question : List ℕ} {attributes budget : ℕ} {first : Li
 
 -- ---- The answer
 
--- what the call brings, by registers and memory at the end of its run
-pub final-outcome : {first : List ℕ} {lent : ℕ} {whole : Ended} {ending : Ending} {mem : Memory} {m : Registers} → Final first lent whole ending mem m
-    → outcome first lent whole ≡ record { answer = endedAnswer ending (m .steps) (m .kept); store = mem .store }
+-- what the call brings: its store is the memory's at the end of its run
+pub final-outcome : {first : List ℕ} {kept : ℕ} {whole : Ended} {ending : Ending} {mem : Memory} {m : Registers} → Final first kept whole ending mem m
+    → outcome (lent first kept) whole ≡ record { answer = endedAnswer whole; store = mem .store }
 unfolding outcome
-final-outcome f = rw (f .ending-is, f .steps-are, f .kept-are, f .store-is)
+final-outcome f = rw (f .store-is)

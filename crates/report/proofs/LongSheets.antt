@@ -9,8 +9,8 @@ use lib.ListN.{length, take}
 use lib.Seq.{take-all, length-take-le}
 use borrow.Author.Tests.{leb-true, leb-false, lt-leb}
 use Rattle.saiga.specs.Sheet.{checkSheet}
-use Rattle.saiga.specs.Ask.{checkCall, ask}
-use Rattle.saiga.specs.Calls.{Call, Lent, empty, call, answers}
+use Rattle.saiga.specs.Ask.{Lent, Call, checkCall, ask}
+use Rattle.saiga.specs.Calls.{empty, answers}
 use Rattle.stream.specs.Stream.{items}
 use Rattle.report.specs.Printed.{calls, lines, printed}
 
@@ -26,7 +26,7 @@ same-check sheet = go (leb (length sheet) 65537) refl
         rw (lt-leb (length (take 65537 sheet)) 65536 (omega arith), lt-leb (length sheet) 65536 (omega arith))
 
 same-answers : (sheet : List ℕ) (m : Lent) (l : List Call) → answers (take 65537 sheet) m l ≡ answers sheet m l
-unfolding answers call ask checkCall
+unfolding answers ask checkCall
 same-answers sheet m [] = refl
 same-answers sheet m (c ∷ l) = rw (same-check sheet, same-answers sheet _ l)
 

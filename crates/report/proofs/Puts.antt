@@ -5,8 +5,8 @@ use Prim.Native.Nat.{ℕ, _+_, _≤_}
 use native.Mathlib.Omega.{arith}
 use lib.ListN.{length}
 use lib.Seq.{sets, sets-eq, length-sets, take-at}
-use Rattle.saiga.specs.Ask.{refusal, ask}
-use Rattle.saiga.specs.Calls.{leaves, call}
+use Rattle.saiga.specs.Ask.{lent, refusal, ask}
+use Rattle.saiga.specs.Calls.{leaves}
 use Rattle.sheets.specs.declared.SheetCheck.{SheetCheck}
 use Rattle.sheets.specs.declared.SheetCheck.the-variants.{Refused}
 use Rattle.calls.specs.Answers.{answerOf}
@@ -15,14 +15,14 @@ use Rattle.calls.proofs.CheckLaws.{sheet-refused, refused-by-sheet}
 use Rattle.calls.proofs.Preparing.{refuses}
 use Rattle.lines.specs.Lines.{lineOf}
 use Rattle.report.specs.Printed.{asks}
-use Rattle.report.specs.Report.{Prepared, Put, Line, lent, after}
+use Rattle.report.specs.Report.{Prepared, Put, Line, after}
 use Rattle.calls.specs.declared.Answer as Declared
 
 module _ {check : SheetCheck} {sheet index store : List ℕ} {kept : ℕ} {links : List ℕ} (p : Prepared check sheet index store kept links) where
-  pub put-refused : {number place : ℕ} {r : Declared.Answer} (question : List ℕ) → check ≡ Refused number place → answerOf r ≡ refusal [] kept number place .answer
+  pub put-refused : {number place : ℕ} {r : Declared.Answer} (question : List ℕ) → check ≡ Refused number place → answerOf r ≡ refusal (lent [] kept) number place .answer
       → Put check sheet index question store kept store links r
   put-refused {number} {place} {r} question e a =
-      let same = refuses sheet store question kept 1000000 r (refused-by-sheet sheet store kept question 1000000 (sheet-refused (p .checked) e)) a in
+      let same = refuses sheet (lent store kept) (asks question) r (refused-by-sheet sheet (lent store kept) (asks question) (sheet-refused (p .checked) e)) a in
       record {
         answer = same .0;
         store-is = same .1;
@@ -33,22 +33,21 @@ module _ {check : SheetCheck} {sheet index store : List ℕ} {kept : ℕ} {links
             };
       }
 
-  pub put-accepted : {question left after : List ℕ} {r : Declared.Answer} → answerOf r ≡ ask sheet store kept question 1000000 .answer
-      → left ≡ ask sheet store kept question 1000000 .store → PreparedStore sheet left (answerOf r .kept) after
+  pub put-accepted : {question left after : List ℕ} {r : Declared.Answer} → answerOf r ≡ ask sheet (lent store kept) (asks question) .answer
+      → left ≡ ask sheet (lent store kept) (asks question) .store → PreparedStore sheet left (answerOf r .kept) after
       → Put check sheet index question store kept left after r
   put-accepted a s ready =
       record { answer = a; store-is = s; prepared = record { checked = p .checked; store-ready = λ m n h. ready } }
 
 pub put-after : {check : SheetCheck} {sheet index question store : List ℕ} {kept : ℕ} {left links : List ℕ} {r : Declared.Answer}
     → Put check sheet index question store kept left links r → lent left (answerOf r .kept) ≡ after sheet (lent store kept) question
-unfolding after leaves call
+unfolding after leaves
 put-after p = ap₂ lent (p .store-is) (ap (λ a. a .kept) (p .answer))
 
 -- the line of the answer, as it was written into its buffer
 pub put-line : {check : SheetCheck} {sheet index question store : List ℕ} {kept : ℕ} {left links : List ℕ} {r : Declared.Answer}
     → Put check sheet index question store kept left links r → (buffer : List ℕ) (n : ℕ) → length buffer ≡ 128 → n ≡ length (lineOf (answerOf r)) → n ≤ 127
-    → Line (sets buffer 0 (lineOf (answerOf r))) n (lineOf (call sheet (lent store kept) (asks question) .answer))
-unfolding call
+    → Line (sets buffer 0 (lineOf (answerOf r))) n (lineOf (ask sheet (lent store kept) (asks question) .answer))
 put-line {r = r} p buffer n size is fits =
     let text = lineOf (answerOf r) in
     let within : 0 + length text ≤ length buffer = omega arith in

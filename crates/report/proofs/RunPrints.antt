@@ -8,13 +8,13 @@ use Prim.Native.Nat.{ℕ, _<_}
 use native.Mathlib.Omega.{arith}
 use lib.ListN.{length}
 use Rattle.saiga.specs.Ask.{Answer}
-use Rattle.saiga.specs.Calls.{empty, call, answers}
+use Rattle.saiga.specs.Calls.{empty, answers}
 use Rattle.lines.specs.Lines.{lineOf}
 use Rattle.stream.specs.declared.Next.{Next}
 use Rattle.stream.specs.declared.Next.the-variants.{Question, Cut, End, More}
 use Rattle.stream.proofs.Items.{told}
 use Rattle.stream.specs.Stream.{items}
-use Rattle.report.specs.Printed.{put, asks, calls, lines, printed}
+use Rattle.report.specs.Printed.{put, calls, lines, printed}
 use Rattle.report.proofs.Few.{used-up}
 use Rattle.report.specs.Report.{View, after, next, turnedBy, givenBy, takenBy, Turns, none, one-more, Ran}
 

@@ -7,11 +7,11 @@ use mathlib.Core.Path.{_≡_, refl, sym, ap, subst, _∙_}
 use Prim.Native.Nat.{ℕ, suc, _+_, _-_, _<_}
 use native.Mathlib.Omega.{arith}
 use lib.ListN.{length}
-use Rattle.saiga.specs.Ask.{Answer}
+use Rattle.saiga.specs.Ask.{lent, Answer}
 use Rattle.saiga.specs.Calls.{empty}
 use Rattle.sheets.specs.declared.SheetCheck.{SheetCheck}
 use Rattle.report.specs.declared.State.{State}
-use Rattle.report.specs.Report.{Prepared, Line, lent, viewOf, chunkOf, turned, Within, Fetched, Turns, none, one-more, Ran}
+use Rattle.report.specs.Report.{Prepared, Line, viewOf, chunkOf, turned, Within, Fetched, Turns, none, one-more, Ran}
 use Rattle.report.proofs.Turns.{view}
 
 -- so many turns, with those that are left, are all that the loop may make

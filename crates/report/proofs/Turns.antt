@@ -7,7 +7,7 @@ use native.Mathlib.Omega.{arith}
 use lib.Dec.{eqb}
 use lib.ListN.{length, take, drop, length-drop}
 use lib.Seq.{take-take, drop-drop, length-take-le, take-nil, take-add}
-use Rattle.saiga.specs.Calls.{Lent, call}
+use Rattle.saiga.specs.Ask.{Lent, ask}
 use Rattle.lines.specs.Lines.{lineOf}
 use Rattle.stream.specs.declared.Next.the-variants.{Question, Cut, End, More}
 use Rattle.stream.specs.Stream.{front}
@@ -40,12 +40,12 @@ module _ (sheet : List ℕ) (v : View) (chunk : List ℕ) where
   left-more e h d = rw (← e, h, d)
 
 module _ (sheet : List ℕ) (v : View) {buffer : List ℕ} where
-  pub line-question : {k n : ℕ} → Question n ≡ next v → Line buffer k (lineOf (call sheet (v .lends) (asks (take n (drop 2 (v .hand)))) .answer))
+  pub line-question : {k n : ℕ} → Question n ≡ next v → Line buffer k (lineOf (ask sheet (v .lends) (asks (take n (drop 2 (v .hand)))) .answer))
       → Line buffer k (lines (given sheet v))
   unfolding givenBy lines
   line-question e l = rw (← e, append-nil) l
 
-  pub line-cut : {k : ℕ} → Cut ≡ next v → Line buffer k (lineOf (call sheet (v .lends) (asks []) .answer)) → Line buffer k (lines (given sheet v))
+  pub line-cut : {k : ℕ} → Cut ≡ next v → Line buffer k (lineOf (ask sheet (v .lends) (asks []) .answer)) → Line buffer k (lines (given sheet v))
   unfolding givenBy lines
   line-cut e l = rw (← e, append-nil) l
 

@@ -1,8 +1,8 @@
 -- What the report program prints (document 01, "Sheet L and its questions"): sheet.bin and standard input as bytes, and the lines as bytes.
 use mathlib.Core.List.{List, [], _∷_, _++_}
 use Prim.Native.Nat.{ℕ}
-use Rattle.saiga.specs.Ask.{Answer}
-use Rattle.saiga.specs.Calls.{Call, empty, answers}
+use Rattle.saiga.specs.Ask.{Call, asking, Answer}
+use Rattle.saiga.specs.Calls.{empty, answers}
 use Rattle.lines.specs.Lines.{lineOf}
 use Rattle.stream.specs.Stream.{Item, question, cut, items}
 
@@ -14,7 +14,7 @@ put cut = []
 
 -- "all to one store of 1,024 with budget 1,000,000"
 abbrev pub asks : List ℕ → Call
-asks bytes = record { question = bytes; budget = 1000000 }
+asks bytes = asking bytes 1000000
 
 unfoldable pub calls : List Item → List Call
 calls [] = []

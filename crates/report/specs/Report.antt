@@ -6,8 +6,8 @@ use mathlib.Core.Path.{_≡_}
 use Prim.Native.Nat.{ℕ, suc, _+_, _-_, _≤_}
 use lib.Dec.{eqb}
 use lib.ListN.{length, take, drop}
-use Rattle.saiga.specs.Ask.{Answer, ask}
-use Rattle.saiga.specs.Calls.{Lent, empty, leaves, call}
+use Rattle.saiga.specs.Ask.{Lent, lent, Answer, ask}
+use Rattle.saiga.specs.Calls.{empty, leaves}
 use Rattle.sheets.specs.Scan.{Checks}
 use Rattle.sheets.specs.declared.SheetCheck.{SheetCheck}
 use Rattle.sheets.specs.declared.SheetCheck.the-variants.{Accepted}
@@ -30,16 +30,13 @@ pub record Prepared (check : SheetCheck) (sheet index store : List ℕ) (kept : 
 
 -- What a question brings, with the budget of 1,000,000, and what it leaves for the next one.
 pub record Put (check : SheetCheck) (sheet index question store : List ℕ) (kept : ℕ) (left links : List ℕ) (r : Declared.Answer) : Type 0 where
-  pub answer : answerOf r ≡ ask sheet store kept question 1000000 .answer
-  pub store-is : left ≡ ask sheet store kept question 1000000 .store
+  pub answer : answerOf r ≡ ask sheet (lent store kept) (asks question) .answer
+  pub store-is : left ≡ ask sheet (lent store kept) (asks question) .store
   pub prepared : Prepared check sheet index left (answerOf r .kept) links
-
-abbrev pub lent : List ℕ → ℕ → Lent
-lent store kept = record { store = store; kept = kept }
 
 -- what a question leaves of what it is lent
 unfoldable pub after : List ℕ → Lent → List ℕ → Lent
-after sheet m question = leaves (call sheet m (asks question))
+after sheet m question = leaves (ask sheet m (asks question))
 
 -- A line that was left at the front of its buffer of 128 bytes.
 pub record Line (buffer : List ℕ) (n : ℕ) (line : List ℕ) : Type 0 where
@@ -94,8 +91,8 @@ turned sheet v chunk = turnedBy sheet v chunk (next v)
 
 -- The answers that a turn gives: one to a question, whole or cut.
 unfoldable pub givenBy : List ℕ → View → Next → List Answer
-givenBy sheet v (Question n) = call sheet (v .lends) (asks (take n (drop 2 (v .hand)))) .answer ∷ []
-givenBy sheet v Cut = call sheet (v .lends) (asks []) .answer ∷ []
+givenBy sheet v (Question n) = ask sheet (v .lends) (asks (take n (drop 2 (v .hand)))) .answer ∷ []
+givenBy sheet v Cut = ask sheet (v .lends) (asks []) .answer ∷ []
 givenBy sheet v End = []
 givenBy sheet v More = []
 

@@ -8,11 +8,12 @@ ghost use mathlib.Core.Path.{_≡_};
 ghost use Prim.Native.Nat.{_≤_};
 ghost use lib.ListN.{length};
 ghost use lib.Seq.{sets};
-ghost use Rattle.saiga.specs.Calls.{empty, call};
+ghost use Rattle.saiga.specs.Ask.{lent, ask as called};
+ghost use Rattle.saiga.specs.Calls.{empty};
 ghost use Rattle.calls.specs.Answers.{answerOf};
 ghost use Rattle.lines.specs.Lines.{lineOf};
 ghost use Rattle.report.specs.Printed.{asks, lines};
-ghost use Rattle.report.specs.Report.{Prepared, Put, Line, lent, after, viewOf, chunkOf, turned, given, Within, Fetched, Ran};
+ghost use Rattle.report.specs.Report.{Prepared, Put, Line, after, viewOf, chunkOf, turned, given, Within, Fetched, Ran};
 
 // Where the run stands: the bytes at hand are those of the buffer from `from` to `to`, and the `came` bytes after them were read for the next
 // turn; the entries kept; whether the input's end was seen; whether there is more to do; and how long the line is that the last turn left.
@@ -126,7 +127,7 @@ fn answer<'a>(
     requires { ⌜ length (now line) ≡ 128 ⌝ }
     ensures { λ r. ⌜ Prepared check (now (sheet .entry)) (now (index .entry)) (now (store .exit)) (r .kept) (now (links .exit)) ⌝ }
     ensures { λ r. ⌜ lent (now (store .exit)) (r .kept) ≡ after (now (sheet .entry)) (lent (now (store .entry)) kept) (now (question .entry)) ⌝ }
-    ensures { λ r. ⌜ Line (now (line .exit)) (r .line) (lineOf (call (now (sheet .entry)) (lent (now (store .entry)) kept) (asks (now (question .entry))) .answer)) ⌝ }
+    ensures { λ r. ⌜ Line (now (line .exit)) (r .line) (lineOf (called (now (sheet .entry)) (lent (now (store .entry)) kept) (asks (now (question .entry))) .answer)) ⌝ }
 {
     let brought = ask(
         check,

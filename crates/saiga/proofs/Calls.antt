@@ -16,8 +16,8 @@ use Rattle.saiga.specs.Sheet.{Sheet, Checked, refused, accepted, checkSh
 use Rattle.saiga.specs.Plain.{plainAt}
 use Rattle.saiga.specs.Caching.{Entry, kept, spent, by, Ended, State}
 use Rattle.saiga.specs.Store.{capacity, checkStore, leftStore}
-use Rattle.saiga.specs.Ask.{refusal, ofBaseType, checkType, checkQuestion, asked, outcome, runQuestion, _then-check_, checkBudget, AcceptedCall, checkCall, answered, ask}
-use Rattle.saiga.specs.Calls.{Call, Lent, leaves, call}
+use Rattle.saiga.specs.Ask.{Lent, Call, asking, refusal, ofBaseType, checkType, checkQuestion, asked, outcome, runQuestion, _then-check_, checkBudget, AcceptedCall, checkCall, answered, ask}
+use Rattle.saiga.specs.Calls.{leaves}
 use Rattle.saiga.specs.Sound.{ExprIn, EntryIn, All}
 use Rattle.saiga.proofs.Reading.{read-in}
 use Rattle.saiga.proofs.Accepted.{accepted-sheet}
@@ -61,11 +61,11 @@ module _ (s : Sheet) (cap budget : ℕ) (entries : List Entry) (e : Expr) where
 -- ---- The checks of a call
 
 -- What the checks of an accepted call found.
-pub record Passed (sheet store : List ℕ) (k : ℕ) (question : List ℕ) (budget : ℕ) (c : AcceptedCall) : Type 0 where
-  pub sheet-is : checkSheet sheet ≡ accepted (c .sheet)
-  pub entries-are : checkStore (c .sheet) store k ≡ accepted (c .entries)
-  pub permitted : budget ≤ 1000000
-  pub question-is : checkQuestion (c .sheet) question ≡ accepted (c .question)
+pub record Passed (sheet : List ℕ) (m : Lent) (c : Call) (a : AcceptedCall) : Type 0 where
+  pub sheet-is : checkSheet sheet ≡ accepted (a .sheet)
+  pub entries-are : checkStore (a .sheet) (m .store) (m .kept) ≡ accepted (a .entries)
+  pub permitted : c .budget ≤ 1000000
+  pub question-is : checkQuestion (a .sheet) (c .question) ≡ accepted (a .question)
 
 -- a chain that accepts has an accepting first check, and goes on with what it found
 then-accepted : {A B : Type 0} (C : Checked A) (next : A → Checked B) {y : B} → (C then-check next) ≡ accepted y
@@ -82,84 +82,83 @@ budget-permitted budget = go (leb budget 1000000) refl
     go true h e = leb-true budget 1000000 h
     go false h e = absurd (let z : _≡_ {A = ℕ} 0 1 = cc in omega arith)
 
-pub passed : (sheet store : List ℕ) (k : ℕ) (question : List ℕ) (budget : ℕ) {c : AcceptedCall} → checkCall sheet store k question budget ≡ accepted c
-    → Passed sheet store k question budget c
+pub passed : (sheet : List ℕ) (m : Lent) (c : Call) {a : AcceptedCall} → checkCall sheet m c ≡ accepted a → Passed sheet m c a
 unfolding checkCall
-passed sheet store k question budget {c} e =
+passed sheet m c {a} e =
     let (s, is-sheet, after-sheet) = then-accepted (checkSheet sheet) _ e in
-    let (entries, is-store, after-store) = then-accepted (checkStore s store k) _ after-sheet in
-    let (_, is-budget, after-budget) = then-accepted (checkBudget budget) _ after-store in
-    let (x, is-question, found) = then-accepted (checkQuestion s question) _ after-budget in
+    let (entries, is-store, after-store) = then-accepted (checkStore s (m .store) (m .kept)) _ after-sheet in
+    let (_, is-budget, after-budget) = then-accepted (checkBudget (c .budget)) _ after-store in
+    let (x, is-question, found) = then-accepted (checkQuestion s (c .question)) _ after-budget in
     let call : AcceptedCall = record { sheet = s; entries = entries; question = x } in
-    let same : call ≡ c = cc in
-    let all : Passed sheet store k question budget call =
-    record { sheet-is = is-sheet; entries-are = is-store; permitted = budget-permitted budget is-budget; question-is = is-question } in
+    let same : call ≡ a = cc in
+    let all : Passed sheet m c call =
+    record { sheet-is = is-sheet; entries-are = is-store; permitted = budget-permitted (c .budget) is-budget; question-is = is-question } in
     rw same at all
 
 -- An accepted call is answered by its run.
-pub ask-runs : (sheet store : List ℕ) (k : ℕ) (question : List ℕ) (budget : ℕ) {c : AcceptedCall} → checkCall sheet store k question budget ≡ accepted c
-    → ask sheet store k question budget ≡ outcome store k (runQuestion (c .sheet) (capacity store) budget (c .entries) (c .question))
+pub ask-runs : (sheet : List ℕ) (m : Lent) (c : Call) {a : AcceptedCall} → checkCall sheet m c ≡ accepted a
+    → ask sheet m c ≡ outcome m (runQuestion (a .sheet) (capacity (m .store)) (c .budget) (a .entries) (a .question))
 unfolding ask answered
-ask-runs sheet store k question budget e = rw e
+ask-runs sheet m c e = rw e
 
 -- A refused one is a refusal.
-pub ask-refuses : (sheet store : List ℕ) (k : ℕ) (question : List ℕ) (budget : ℕ) {number place : ℕ}
-    → checkCall sheet store k question budget ≡ refused number place → ask sheet store k question budget ≡ refusal store k number place
+pub ask-refuses : (sheet : List ℕ) (m : Lent) (c : Call) {number place : ℕ} → checkCall sheet m c ≡ refused number place
+    → ask sheet m c ≡ refusal m number place
 unfolding ask answered
-ask-refuses sheet store k question budget e = rw e
+ask-refuses sheet m c e = rw e
 
 -- ---- Calls
 
 module _ (sheet : List ℕ) (s : Sheet) (ok : checkSheet sheet ≡ accepted s) where
   pub call-answered : (m : Lent) (entries : List Entry) (q : List ℕ) (budget : ℕ) (e : Expr) → checkStore s (m .store) (m .kept) ≡ accepted entries
       → budget ≤ 1000000 → checkQuestion s q ≡ accepted e
-      → call sheet m record { question = q; budget = budget } ≡ outcome (m .store) (m .kept) (runQuestion s (capacity (m .store)) budget entries e)
-  unfolding call ask checkCall answered checkBudget _then-check_
+      → ask sheet m (asking q budget) ≡ outcome m (runQuestion s (capacity (m .store)) budget entries e)
+  unfolding ask checkCall answered checkBudget _then-check_
   call-answered m entries q budget e pass permitted form = rw (ok, pass, le-leb budget 1000000 permitted, form)
 
   pub call-over : (m : Lent) (entries : List Entry) (q : List ℕ) (budget : ℕ) → checkStore s (m .store) (m .kept) ≡ accepted entries
-      → 1000000 < budget → call sheet m record { question = q; budget = budget } ≡ refusal (m .store) (m .kept) 11 0
-  unfolding call ask checkCall answered checkBudget _then-check_
+      → 1000000 < budget → ask sheet m (asking q budget) ≡ refusal m 11 0
+  unfolding ask checkCall answered checkBudget _then-check_
   call-over m entries q budget pass over = rw (ok, pass, lt-leb budget 1000000 over)
 
   pub call-malformed : (m : Lent) (entries : List Entry) (q : List ℕ) (budget number place : ℕ) → checkStore s (m .store) (m .kept) ≡ accepted entries
       → budget ≤ 1000000 → checkQuestion s q ≡ refused number place
-      → call sheet m record { question = q; budget = budget } ≡ refusal (m .store) (m .kept) number place
-  unfolding call ask checkCall answered checkBudget _then-check_
+      → ask sheet m (asking q budget) ≡ refusal m number place
+  unfolding ask checkCall answered checkBudget _then-check_
   call-malformed m entries q budget number place pass permitted form = rw (ok, pass, le-leb budget 1000000 permitted, form)
 
   call-refused : (m : Lent) (q : List ℕ) (budget number place : ℕ) → checkStore s (m .store) (m .kept) ≡ refused number place
-      → call sheet m record { question = q; budget = budget } ≡ refusal (m .store) (m .kept) number place
-  unfolding call ask checkCall answered checkBudget _then-check_
+      → ask sheet m (asking q budget) ≡ refusal m number place
+  unfolding ask checkCall answered checkBudget _then-check_
   call-refused m q budget number place pass = rw (ok, pass)
 
   -- ---- Larger budgets
 
-  module _ (lent : Lent) (q : List ℕ) (b b′ : ℕ) (more : b ≤ b′) (permitted : b′ ≤ 1000000) where
-    budget-run : (entries : List Entry) (e : Expr) → (runQuestion s (capacity (lent .store)) b entries e .ending ≡ by spent → ⊥)
-        → runQuestion s (capacity (lent .store)) b′ entries e ≡ runQuestion s (capacity (lent .store)) b entries e
+  module _ (m : Lent) (q : List ℕ) (b b′ : ℕ) (more : b ≤ b′) (permitted : b′ ≤ 1000000) where
+    budget-run : (entries : List Entry) (e : Expr) → (runQuestion s (capacity (m .store)) b entries e .ending ≡ by spent → ⊥)
+        → runQuestion s (capacity (m .store)) b′ entries e ≡ runQuestion s (capacity (m .store)) b entries e
     budget-run entries e n =
-        question-is s (capacity (lent .store)) b′ entries e
-        (larger-budget (context s) (capacity (lent .store)) b b′ more (question-runs s (capacity (lent .store)) b entries e) n)
+        question-is s (capacity (m .store)) b′ entries e
+        (larger-budget (context s) (capacity (m .store)) b b′ more (question-runs s (capacity (m .store)) b entries e) n)
 
-    pub budgets-agree : (call sheet lent record { question = q; budget = b } .answer .number ≡ 15 → ⊥)
-        → call sheet lent record { question = q; budget = b′ } ≡ call sheet lent record { question = q; budget = b }
+    pub budgets-agree : (ask sheet m (asking q b) .answer .number ≡ 15 → ⊥)
+        → ask sheet m (asking q b′) ≡ ask sheet m (asking q b)
     unfolding outcome
-    budgets-agree n = stored (checkStore s (lent .store) (lent .kept)) refl
+    budgets-agree n = stored (checkStore s (m .store) (m .kept)) refl
       where
-        asked-of : (entries : List Entry) → checkStore s (lent .store) (lent .kept) ≡ accepted entries → (c : Checked Expr) → checkQuestion s q ≡ c
-            → call sheet lent record { question = q; budget = b′ } ≡ call sheet lent record { question = q; budget = b }
+        asked-of : (entries : List Entry) → checkStore s (m .store) (m .kept) ≡ accepted entries → (c : Checked Expr) → checkQuestion s q ≡ c
+            → ask sheet m (asking q b′) ≡ ask sheet m (asking q b)
         asked-of entries pass (refused number place) form =
-            call-malformed lent entries q b′ number place pass permitted form ∙ sym (call-malformed lent entries q b number place pass (omega (arith, more, permitted)) form)
+            call-malformed m entries q b′ number place pass permitted form ∙ sym (call-malformed m entries q b number place pass (omega (arith, more, permitted)) form)
         asked-of entries pass (accepted e) form =
-            let small = call-answered lent entries q b e pass (omega (arith, more, permitted)) form in
-            call-answered lent entries q b′ e pass permitted form
-            ∙ ap (outcome (lent .store) (lent .kept)) (budget-run entries e (λ h. n (ap (λ o. o .answer .number) small ∙ spent-number _ _ _ h)))
+            let small = call-answered m entries q b e pass (omega (arith, more, permitted)) form in
+            call-answered m entries q b′ e pass permitted form
+            ∙ ap (outcome m) (budget-run entries e (λ h. n (ap (λ o. o .answer .number) small ∙ spent-number _ h)))
             ∙ sym small
 
-        stored : (c : Checked (List Entry)) → checkStore s (lent .store) (lent .kept) ≡ c
-            → call sheet lent record { question = q; budget = b′ } ≡ call sheet lent record { question = q; budget = b }
-        stored (refused number place) pass = call-refused lent q b′ number place pass ∙ sym (call-refused lent q b number place pass)
+        stored : (c : Checked (List Entry)) → checkStore s (m .store) (m .kept) ≡ c
+            → ask sheet m (asking q b′) ≡ ask sheet m (asking q b)
+        stored (refused number place) pass = call-refused m q b′ number place pass ∙ sym (call-refused m q b number place pass)
         stored (accepted entries) pass = asked-of entries pass (checkQuestion s q) refl
 
   -- ---- Types
@@ -208,7 +207,7 @@ module _ (sheet : List ℕ) (s : Sheet) (ok : checkSheet sheet ≡ accepted s) w
   module _ (m : Lent) (entries : List Entry) (pass : Passes m entries) where
     -- what an accepted question leaves passes the checks of the next call, and has the same capacity
     pub question-leaves : (q : List ℕ) (budget : ℕ) (e : Expr) → budget ≤ 1000000 → checkQuestion s q ≡ accepted e
-        → let after = leaves (call sheet m record { question = q; budget = budget }) in
+        → let after = leaves (ask sheet m (asking q budget)) in
         Passes after (runQuestion s (capacity (m .store)) budget entries e .entries) × (length (after .store) ≡ length (m .store))
     question-leaves q budget e permitted form =
         let k = capacity (m .store) in
@@ -218,23 +217,23 @@ module _ (sheet : List ℕ) (s : Sheet) (ok : checkSheet sheet ≡ accepted s) w
 
     -- A call leaves the store as lent, or it is an accepted question with a permitted budget.
     pub call-cases : (P : Lent → Type 0) (c : Call) → P m
-        → ((e : Expr) → c .budget ≤ 1000000 → checkQuestion s (c .question) ≡ accepted e → P (leaves (call sheet m c))) → P (leaves (call sheet m c))
+        → ((e : Expr) → c .budget ≤ 1000000 → checkQuestion s (c .question) ≡ accepted e → P (leaves (ask sheet m c))) → P (leaves (ask sheet m c))
     call-cases P c lent answered = budgeted (leb (c .budget) 1000000) refl
       where
-        as-lent : (number place : ℕ) → call sheet m c ≡ refusal (m .store) (m .kept) number place → P (leaves (call sheet m c))
+        as-lent : (number place : ℕ) → ask sheet m c ≡ refusal m number place → P (leaves (ask sheet m c))
         as-lent number place e = rw e (unfold refusal leaves in lent)
 
-        formed : c .budget ≤ 1000000 → (d : Checked Expr) → checkQuestion s (c .question) ≡ d → P (leaves (call sheet m c))
+        formed : c .budget ≤ 1000000 → (d : Checked Expr) → checkQuestion s (c .question) ≡ d → P (leaves (ask sheet m c))
         formed permitted (refused number place) form =
             as-lent number place (call-malformed m entries (c .question) (c .budget) number place pass permitted form)
         formed permitted (accepted e) form = answered e permitted form
 
-        budgeted : (b : Bool) → leb (c .budget) 1000000 ≡ b → P (leaves (call sheet m c))
+        budgeted : (b : Bool) → leb (c .budget) 1000000 ≡ b → P (leaves (ask sheet m c))
         budgeted true p = formed (leb-true (c .budget) 1000000 p) (checkQuestion s (c .question)) refl
         budgeted false p = as-lent 11 0 (call-over m entries (c .question) (c .budget) pass (leb-false (c .budget) 1000000 p))
 
     -- A store left by a call passes the checks of the next, whatever its values are.
-    pub left-store-passes : (c : Call) → (after : List Entry) × Passes (leaves (call sheet m c)) after
+    pub left-store-passes : (c : Call) → (after : List Entry) × Passes (leaves (ask sheet m c)) after
     left-store-passes c =
         call-cases (λ l. (after : List Entry) × Passes l after) c (entries, pass)
         (λ e permitted form. (_, question-leaves (c .question) (c .budget) e permitted form .0))

@@ -14,23 +14,23 @@ use Rattle.saiga.specs.Expressions.{Expr}
 use Rattle.saiga.specs.Sheet.{Sheet, Checked, refused, accepted, checkSheet, context}
 use Rattle.saiga.specs.Caching.{Entry, kept}
 use Rattle.saiga.specs.Store.{capacity, checkStore, readEntries}
-use Rattle.saiga.specs.Ask.{refusal, checkQuestion, asked, outcome, runQuestion}
-use Rattle.saiga.specs.Calls.{Call, Lent, leaves, call, afterCalls, answers}
+use Rattle.saiga.specs.Ask.{Lent, Call, asking, refusal, checkQuestion, asked, endedAnswer, outcome, runQuestion, ask}
+use Rattle.saiga.specs.Calls.{leaves, afterCalls, answers}
 use Rattle.saiga.specs.Demand3.{PlainEnding, PlainEnds, Brings, HasEnding, First, at-place, OfSheet, Demand3}
 use Rattle.saiga.proofs.Keeping.{right-run}
 use Rattle.saiga.proofs.Larger.{Nested, alike, larger, Brings as RunBrings}
 use Rattle.saiga.proofs.Erasure.{Right, faithful-put}
-use Rattle.saiga.proofs.Endings.{endedAs, same-ending, sound-ending, never-both, complete-ending}
+use Rattle.saiga.proofs.Endings.{same-ending, sound-ending, never-both, complete-ending}
 use Rattle.saiga.proofs.Calls.{question-runs, question-follows, call-answered, call-over, call-malformed, budgets-agree, Passes, question-leaves, call-cases}
 
 -- ---- Lists
 
 places : (sheet : List ℕ) (first : Lent) (before after : List Call) (c : Call)
-    → let o = call sheet (afterCalls sheet first before) c in
+    → let o = ask sheet (afterCalls sheet first before) c in
     answers sheet first (before ++ c ∷ after) ≡ answers sheet first before ++ o .answer ∷ answers sheet (leaves o) after
 unfolding answers afterCalls
 places sheet first [] after c = refl
-places sheet first (d ∷ before) after c = ap (λ l. call sheet first d .answer ∷ l) (places sheet (leaves (call sheet first d)) before after c)
+places sheet first (d ∷ before) after c = ap (λ l. ask sheet first d .answer ∷ l) (places sheet (leaves (ask sheet first d)) before after c)
 
 module _ (sheet : List ℕ) (s : Sheet) (ok : checkSheet sheet ≡ accepted s) where
   -- ---- What a list of calls reaches
@@ -54,14 +54,14 @@ module _ (sheet : List ℕ) (s : Sheet) (ok : checkSheet sheet ≡ accepted s) w
 
   module _ (size : ℕ) (entries : List Entry) (m : Lent) (r : Reached size entries m) where
     answer-is : (q : List ℕ) (budget : ℕ) (e : Expr) → budget ≤ 1000000 → checkQuestion s q ≡ accepted e
-        → call sheet m record { question = q; budget = budget } .answer ≡ endedAs (runQuestion s size budget entries e)
+        → ask sheet m (asking q budget) .answer ≡ endedAnswer (runQuestion s size budget entries e)
     unfolding outcome
     answer-is q budget e permitted form =
         ap (λ o. o .answer) (call-answered sheet s ok m entries q budget e (r .passes) permitted form)
-        ∙ ap (λ k. endedAs (runQuestion s k budget entries e)) (r .sized)
+        ∙ ap (λ k. endedAnswer (runQuestion s k budget entries e)) (r .sized)
 
     reached-question : (q : List ℕ) (budget : ℕ) (e : Expr) → budget ≤ 1000000 → checkQuestion s q ≡ accepted e
-        → Reached size (runQuestion s size budget entries e .entries) (leaves (call sheet m record { question = q; budget = budget }))
+        → Reached size (runQuestion s size budget entries e .entries) (leaves (ask sheet m (asking q budget)))
     reached-question q budget e permitted form =
         let left = question-leaves sheet s ok m entries (r .passes) q budget e permitted form in
         rw (← r .sized) record {
@@ -78,7 +78,7 @@ module _ (sheet : List ℕ) (s : Sheet) (ok : checkSheet sheet ≡ accepted s) w
   unfolding afterCalls
   reached size m r [] = r
   reached size m r (c ∷ before) =
-      reached size (leaves (call sheet m c))
+      reached size (leaves (ask sheet m c))
       (call-cases sheet s ok m (r .0) (r .1 .passes) (ReachedSome size) c r
       (λ e permitted form. (_, reached-question size (r .0) m (r .1) (c .question) (c .budget) e permitted form)))
       before
@@ -103,14 +103,14 @@ module _ (sheet : List ℕ) (s : Sheet) (ok : checkSheet sheet ≡ accepted s) w
           larger (context s) size size′ budget more (p .small) (p .large) (p .nested) (p .small-reached .right) (p .large-reached .right) _
           (faithful-put (context s) 0 unit e) (question-runs s size budget (p .small) e) (question-runs s size′ budget (p .large) e)
 
-    pair-call : (m m′ : Lent) → Paired m m′ → (c : Call) → Paired (leaves (call sheet m c)) (leaves (call sheet m′ c))
+    pair-call : (m m′ : Lent) → Paired m m′ → (c : Call) → Paired (leaves (ask sheet m c)) (leaves (ask sheet m′ c))
     pair-call m m′ p c = budgeted (leb (c .budget) 1000000) refl
       where
-        as-lent : (number place : ℕ) → call sheet m c ≡ refusal (m .store) (m .kept) number place
-            → call sheet m′ c ≡ refusal (m′ .store) (m′ .kept) number place → Paired (leaves (call sheet m c)) (leaves (call sheet m′ c))
+        as-lent : (number place : ℕ) → ask sheet m c ≡ refusal m number place
+            → ask sheet m′ c ≡ refusal m′ number place → Paired (leaves (ask sheet m c)) (leaves (ask sheet m′ c))
         as-lent number place e e′ = rw (e, e′) (unfold refusal leaves in p)
 
-        formed : c .budget ≤ 1000000 → (d : Checked Expr) → checkQuestion s (c .question) ≡ d → Paired (leaves (call sheet m c)) (leaves (call sheet m′ c))
+        formed : c .budget ≤ 1000000 → (d : Checked Expr) → checkQuestion s (c .question) ≡ d → Paired (leaves (ask sheet m c)) (leaves (ask sheet m′ c))
         formed permitted (refused number place) form =
             as-lent number place
             (call-malformed sheet s ok m (p .small) (c .question) (c .budget) number place (p .small-reached .passes) permitted form)
@@ -123,7 +123,7 @@ module _ (sheet : List ℕ) (s : Sheet) (ok : checkSheet sheet ≡ accepted s) w
           nested = pair-runs m m′ p (c .question) (c .budget) e .0;
         }
 
-        budgeted : (b : Bool) → leb (c .budget) 1000000 ≡ b → Paired (leaves (call sheet m c)) (leaves (call sheet m′ c))
+        budgeted : (b : Bool) → leb (c .budget) 1000000 ≡ b → Paired (leaves (ask sheet m c)) (leaves (ask sheet m′ c))
         budgeted true h = formed (leb-true (c .budget) 1000000 h) (checkQuestion s (c .question)) refl
         budgeted false h =
             let over = leb-false (c .budget) 1000000 h in
@@ -134,17 +134,17 @@ module _ (sheet : List ℕ) (s : Sheet) (ok : checkSheet sheet ≡ accepted s) w
     paired : (m m′ : Lent) → Paired m m′ → (before : List Call) → Paired (afterCalls sheet m before) (afterCalls sheet m′ before)
     unfolding afterCalls
     paired m m′ p [] = p
-    paired m m′ p (c ∷ before) = paired (leaves (call sheet m c)) (leaves (call sheet m′ c)) (pair-call m m′ p c) before
+    paired m m′ p (c ∷ before) = paired (leaves (ask sheet m c)) (leaves (ask sheet m′ c)) (pair-call m m′ p c) before
 
   -- ---- The claim
 
   -- an answer with an ending of plain Saiga's was given under a permitted budget
   ending-permitted : (m : Lent) (entries : List Entry) (q : List ℕ) (budget : ℕ) → Passes sheet s ok m entries
-      → HasEnding (call sheet m record { question = q; budget = budget } .answer) → budget ≤ 1000000
+      → HasEnding (ask sheet m (asking q budget) .answer) → budget ≤ 1000000
   unfolding HasEnding refusal
   ending-permitted m entries q budget pass h = go (leb budget 1000000) refl
     where
-      refute : (call sheet m record { question = q; budget = budget } .answer .number ≡ 11) → HasEnding (call sheet m record { question = q; budget = budget } .answer) → ⊥
+      refute : (ask sheet m (asking q budget) .answer .number ≡ 11) → HasEnding (ask sheet m (asking q budget) .answer) → ⊥
       refute e (inl h) = omega (arith, e, h)
       refute e (inr h) = omega (arith, e, h)
 
@@ -162,7 +162,7 @@ module _ (sheet : List ℕ) (s : Sheet) (ok : checkSheet sheet ≡ accepted s) w
 
   of-sheet : OfSheet sheet s
   of-sheet = record {
-    places = λ first before q budget after. places sheet first before after record { question = q; budget = budget };
+    places = λ first before q budget after. places sheet first before after (asking q budget);
     complete = λ size first f before q e form ending n h budget enough permitted.
         let (entries, r) = reached size first ([], reached-first size first f) before in
         rw (answer-is size entries _ r q budget e permitted form)
@@ -182,7 +182,7 @@ module _ (sheet : List ℕ) (s : Sheet) (ok : checkSheet sheet ≡ accepted s) w
         let permitted = ending-permitted _ (p .small) q budget (p .small-reached .passes) h in
         let is = answer-is size (p .small) _ (p .small-reached) q budget e permitted form in
         let is′ = answer-is size′ (p .large) _ (p .large-reached) q budget e permitted form in
-        rw (is, is′) (same-ending _ _ _ _ _ (pair-runs size size′ more _ _ p q budget e .1) (rw is at h));
+        rw (is, is′) (same-ending _ _ _ _ (pair-runs size size′ more _ _ p q budget e .1) (rw is at h));
     larger-budgets = λ lent q b b′ more permitted n. budgets-agree sheet s ok lent q b b′ more permitted n;
   }
 

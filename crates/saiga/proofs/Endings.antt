@@ -1,4 +1,5 @@
 -- The endings that answers bring against those of plain Saiga.
+use mathlib.Core.List.{List}
 use mathlib.Core.Logic.{_⊎_, inl, inr}
 use mathlib.Core.Option.{some}
 use mathlib.Core.Path.{_≡_, refl, sym, _∙_, ap}
@@ -10,52 +11,59 @@ use Rattle.saiga.specs.Expressions.{Expr}
 use Rattle.saiga.specs.Sheet.{Sheet, context}
 use Rattle.saiga.specs.Terms.{val}
 use Rattle.saiga.specs.Plain.{Plain, is-value, on-null, plainStep, plainAt, EndsWithValue, EndsOnNull, RunsForEver}
-use Rattle.saiga.specs.Caching.{kept, null-node, spent, depth, with-value, by, Ending, Ended}
+use Rattle.saiga.specs.Caching.{Entry, null-node, spent, depth, with-value, by, Ending, Ended}
 use Rattle.saiga.specs.Ask.{Answer, asked, reasonNumber, endedAnswer}
 use Rattle.saiga.specs.Demand3.{PlainEnding, a-value, on-null-node, PlainEnds, Brings, HasEnding}
 use Rattle.saiga.proofs.Larger.{BringsIn}
 use Rattle.saiga.proofs.PlainFacts.{Final, final-value, final-null, last, one-end}
 use Rattle.saiga.proofs.AgainstPlain.{Follows}
 
--- the answer of an ended run
-abbrev pub endedAs : Ended → Answer
-endedAs end = endedAnswer (end .ending) (end .steps) (length (end .entries))
+-- An ended run by its parts.
+abbrev ended-so : Ending → ℕ → List Entry → Ended
+ended-so ending steps entries = record { ending = ending; entries = entries; steps = steps }
+
+-- the answer of a run that ended so
+abbrev answer-of : Ending → ℕ → List Entry → Answer
+answer-of ending steps entries = endedAnswer (ended-so ending steps entries)
 
 -- The larger store's run brings the same ending.
-pub same-ending : (ending : Ending) (steps k k′ : ℕ) (large : Ended) → BringsIn ending steps large → HasEnding (endedAnswer ending steps k)
-    → let r = endedAnswer ending steps k in
-    let r′ = endedAnswer (large .ending) (large .steps) k′ in
+pub same-ending : (ending : Ending) (steps : ℕ) (entries : List Entry) (large : Ended) → BringsIn ending steps large → HasEnding (answer-of ending steps entries)
+    → let r = answer-of ending steps entries in
+    let r′ = endedAnswer large in
     (r′ .number ≡ r .number) × (r′ .type ≡ r .type) × (r′ .value ≡ r .value) × (r′ .steps ≤ r .steps)
 unfolding endedAnswer reasonNumber HasEnding
-same-ending (with-value v) steps k k′ large b h = rw (b .0) (refl, refl, refl, b .1)
-same-ending (by null-node) steps k k′ large b h = rw (b .0) (refl, refl, refl, b .1)
-same-ending (by spent) steps k k′ large b (inl h) = absurd (omega (arith, h))
-same-ending (by spent) steps k k′ large b (inr h) = absurd (omega (arith, h))
-same-ending (by depth) steps k k′ large b (inl h) = absurd (omega (arith, h))
-same-ending (by depth) steps k k′ large b (inr h) = absurd (omega (arith, h))
+same-ending (with-value v) steps k large b h = rw (b .0) (refl, refl, refl, b .1)
+same-ending (by null-node) steps k large b h = rw (b .0) (refl, refl, refl, b .1)
+same-ending (by spent) steps k large b (inl h) = absurd (omega (arith, h))
+same-ending (by spent) steps k large b (inr h) = absurd (omega (arith, h))
+same-ending (by depth) steps k large b (inl h) = absurd (omega (arith, h))
+same-ending (by depth) steps k large b (inr h) = absurd (omega (arith, h))
 
 -- Stop 15 is given for the budget alone.
-pub kept-field : (e : Ending) (steps k : ℕ) → endedAnswer e steps k .kept ≡ k
+pub kept-field : (end : Ended) → endedAnswer end .kept ≡ length (end .entries)
 unfolding endedAnswer
-kept-field (with-value v) steps k = refl
-kept-field (by r) steps k = refl
+kept-field end = go (end .ending)
+  where
+    go : (e : Ending) → answer-of e (end .steps) (end .entries) .kept ≡ length (end .entries)
+    go (with-value v) = refl
+    go (by r) = refl
 
-pub spent-number : (e : Ending) (steps k : ℕ) → e ≡ by spent → endedAnswer e steps k .number ≡ 15
+pub spent-number : (end : Ended) → end .ending ≡ by spent → endedAnswer end .number ≡ 15
 unfolding endedAnswer reasonNumber
-spent-number e steps k h = rw h
+spent-number end h = rw h
 
 -- The numbers of the endings that plain Saiga has.
 module _ (s : Sheet) (e : Expr) (budget : ℕ) where
   -- the ending that an answer brings is plain Saiga's
-  pub sound-ending : (ending : Ending) (steps k : ℕ) → Follows (context s) budget (asked e) steps ending → HasEnding (endedAnswer ending steps k)
-      → (p : PlainEnding) × (n : ℕ) × PlainEnds s e p n × Brings (endedAnswer ending steps k) p × (endedAnswer ending steps k .steps ≤ n)
+  pub sound-ending : (ending : Ending) (steps : ℕ) (entries : List Entry) → Follows (context s) budget (asked e) steps ending → HasEnding (answer-of ending steps entries)
+      → (p : PlainEnding) × (n : ℕ) × PlainEnds s e p n × Brings (answer-of ending steps entries) p × (answer-of ending steps entries .steps ≤ n)
   unfolding endedAnswer reasonNumber HasEnding PlainEnds Brings EndsWithValue EndsOnNull
-  sound-ending (with-value v) steps k f h = (a-value v, f .0, f .1, (refl, refl, refl), f .2)
-  sound-ending (by null-node) steps k f h = (on-null-node, f .0, (f .1, f .2, f .3), refl, f .4)
-  sound-ending (by spent) steps k f (inl h) = absurd (omega (arith, h))
-  sound-ending (by spent) steps k f (inr h) = absurd (omega (arith, h))
-  sound-ending (by depth) steps k f (inl h) = absurd (omega (arith, h))
-  sound-ending (by depth) steps k f (inr h) = absurd (omega (arith, h))
+  sound-ending (with-value v) steps l f h = (a-value v, f .0, f .1, (refl, refl, refl), f .2)
+  sound-ending (by null-node) steps l f h = (on-null-node, f .0, (f .1, f .2, f .3), refl, f .4)
+  sound-ending (by spent) steps l f (inl h) = absurd (omega (arith, h))
+  sound-ending (by spent) steps l f (inr h) = absurd (omega (arith, h))
+  sound-ending (by depth) steps l f (inl h) = absurd (omega (arith, h))
+  sound-ending (by depth) steps l f (inr h) = absurd (omega (arith, h))
 
   -- where plain Saiga ends, no step is due
   ended : (p : PlainEnding) (n : ℕ) → PlainEnds s e p n → (t : Plain) × (plainAt (context s) n (asked e) ≡ some t) × Final (context s) t
@@ -95,17 +103,17 @@ module _ (s : Sheet) (e : Expr) (budget : ℕ) where
       let same = one-end (context s) m n (asked e) (a .0) (b .0) (a .1) (b .1) (a .2) (b .2) .1 in
       (same, one-ending n p q (rw same at h) k)
 
-  pub complete-ending : (ending : Ending) (steps k : ℕ) → Follows (context s) budget (asked e) steps ending → (p : PlainEnding) (n : ℕ) → PlainEnds s e p n
-      → n ≤ budget → (Brings (endedAnswer ending steps k) p × (endedAnswer ending steps k .steps ≤ n)) ⊎ (endedAnswer ending steps k .number ≡ 16)
+  pub complete-ending : (ending : Ending) (steps : ℕ) (entries : List Entry) → Follows (context s) budget (asked e) steps ending → (p : PlainEnding) (n : ℕ) → PlainEnds s e p n
+      → n ≤ budget → (Brings (answer-of ending steps entries) p × (answer-of ending steps entries .steps ≤ n)) ⊎ (answer-of ending steps entries .number ≡ 16)
   unfolding endedAnswer reasonNumber Brings PlainEnds EndsWithValue EndsOnNull
-  complete-ending (with-value v) steps k f p n h l =
+  complete-ending (with-value v) steps l f p n h m =
       let o = ends-once p (a-value v) n (f .0) h (f .1) in
       inl (rw (o .1) (refl, refl, refl), omega (arith, o .0, f .2))
-  complete-ending (by null-node) steps k f p n h l =
+  complete-ending (by null-node) steps l f p n h m =
       let o = ends-once p on-null-node n (f .0) h (f .1, f .2, f .3) in
       inl (rw (o .1) refl, omega (arith, o .0, f .4))
-  complete-ending (by spent) steps k f p n h l =
+  complete-ending (by spent) steps l f p n h m =
       let a = ended p n h in
-      let m : suc (f .0) ≤ n = last (context s) n (suc (f .0)) (asked e) (a .0) (f .1) (a .1) (a .2) (f .2) in
+      let n-more : suc (f .0) ≤ n = last (context s) n (suc (f .0)) (asked e) (a .0) (f .1) (a .1) (a .2) (f .2) in
       absurd (omega (arith, f .3, f .4))
-  complete-ending (by depth) steps k f p n h l = inr refl
+  complete-ending (by depth) steps l f p n h m = inr refl

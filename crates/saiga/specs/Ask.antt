@@ -14,6 +14,24 @@ use Rattle.saiga.specs.Terms.{Term, put}
 use Rattle.saiga.specs.Caching.{Entry, Reason, null-node, spent, depth, Ending, with-value, by, Ended, run}
 use Rattle.saiga.specs.Store.{capacity, checkStore, leftStore}
 
+-- ---- What a call has, and what it brings
+
+-- "The store is a lent run of entries of 12 bytes .. and a number kept": what a call is lent, and what it leaves for the next.
+pub record Lent : Type 0 where
+  pub store : List ℕ
+  pub kept : ℕ
+
+abbrev pub lent : List ℕ → ℕ → Lent
+lent store kept = record { store = store; kept = kept }
+
+-- A call has "any question bytes and any budget" (document 01, "Contracts").
+pub record Call : Type 0 where
+  pub question : List ℕ
+  pub budget : ℕ
+
+abbrev pub asking : List ℕ → ℕ → Call
+asking question budget = record { question = question; budget = budget }
+
 -- "An answer has number (0 for a value), place, type, value, steps, kept."
 pub record Answer : Type 0 where
   pub number : ℕ
@@ -29,11 +47,11 @@ pub record Outcome : Type 0 where
   pub store : List ℕ
 
 -- "Under 1 to 13 steps are 0 and kept and store are as lent."
-unfoldable pub refusal : List ℕ → ℕ → ℕ → ℕ → Outcome
-refusal store k number place =
+unfoldable pub refusal : Lent → ℕ → ℕ → Outcome
+refusal m number place =
     record {
-      answer = record { number = number; place = place; type = 0; value = pos 0; steps = 0; kept = k };
-      store = store;
+      answer = record { number = number; place = place; type = 0; value = pos 0; steps = 0; kept = m .kept };
+      store = m .store;
     }
 
 -- "12 question not of its form. 13 question not of base type."
@@ -59,18 +77,16 @@ reasonNumber spent = 15
 reasonNumber depth = 16
 
 -- "Under any stop type and value are 0."
-unfoldable pub endedAnswer : Ending → ℕ → ℕ → Answer
-endedAnswer (with-value v) steps k =
-    record { number = 0; place = 0; type = typeCode v; value = decimal v; steps = steps; kept = k }
-endedAnswer (by reason) steps k =
-    record { number = reasonNumber reason; place = 0; type = 0; value = pos 0; steps = steps; kept = k }
+unfoldable pub endedAnswer : Ended → Answer
+endedAnswer end =
+    let kept = length (end .entries) in
+    elim (end .ending) [
+      | with-value v ↦ record { number = 0; place = 0; type = typeCode v; value = decimal v; steps = end .steps; kept = kept }
+      | by reason ↦ record { number = reasonNumber reason; place = 0; type = 0; value = pos 0; steps = end .steps; kept = kept }
+    ]
 
-unfoldable pub outcome : List ℕ → ℕ → Ended → Outcome
-outcome store k end =
-    record {
-      answer = endedAnswer (end .ending) (end .steps) (length (end .entries));
-      store = leftStore store k (end .entries);
-    }
+unfoldable pub outcome : Lent → Ended → Outcome
+outcome m end = record { answer = endedAnswer end; store = leftStore (m .store) (m .kept) (end .entries) }
 
 unfoldable pub runQuestion : Sheet → ℕ → ℕ → List Entry → Expr → Ended
 runQuestion s capacity budget entries e =
@@ -95,21 +111,21 @@ pub record AcceptedCall : Type 0 where
   pub question : Expr
 
 -- "Order: 1, then commands from the front and in each command 2 to 7, then 8 to 13." The sheet's check makes 1 to 8, the store's 9 and 10.
-unfoldable pub checkCall : List ℕ → List ℕ → ℕ → List ℕ → ℕ → Checked AcceptedCall
-checkCall sheet store k question budget =
+unfoldable pub checkCall : List ℕ → Lent → Call → Checked AcceptedCall
+checkCall sheet m c =
     checkSheet sheet then-check λ s.
-    checkStore s store k then-check λ entries.
-    checkBudget budget then-check λ _.
-    checkQuestion s question then-check λ e.
+    checkStore s (m .store) (m .kept) then-check λ entries.
+    checkBudget (c .budget) then-check λ _.
+    checkQuestion s (c .question) then-check λ e.
     accepted record { sheet = s; entries = entries; question = e }
 
 -- ---- The call
 
 -- A call that is refused, or that runs.
-unfoldable pub answered : List ℕ → ℕ → ℕ → Checked AcceptedCall → Outcome
-answered store k budget (refused number place) = refusal store k number place
-answered store k budget (accepted c) = outcome store k (runQuestion (c .sheet) (capacity store) budget (c .entries) (c .question))
+unfoldable pub answered : Lent → Call → Checked AcceptedCall → Outcome
+answered m c (refused number place) = refusal m number place
+answered m c (accepted a) = outcome m (runQuestion (a .sheet) (capacity (m .store)) (c .budget) (a .entries) (a .question))
 
--- The call: the sheet, the store with its kept number, the question and the budget.
-unfoldable pub ask : List ℕ → List ℕ → ℕ → List ℕ → ℕ → Outcome
-ask sheet store k question budget = answered store k budget (checkCall sheet store k question budget)
+-- A question call: the sheet's bytes, what is lent, and the question with its budget.
+unfoldable pub ask : List ℕ → Lent → Call → Outcome
+ask sheet m c = answered m c (checkCall sheet m c)

@@ -9,8 +9,8 @@ use Rattle.saiga.specs.Values.{Value, typeCode, decimal}
 use Rattle.saiga.specs.Expressions.{Expr}
 use Rattle.saiga.specs.Sheet.{Sheet, accepted, checkSheet, context}
 use Rattle.saiga.specs.Plain.{EndsWithValue, EndsOnNull, RunsForEver}
-use Rattle.saiga.specs.Ask.{Answer, Outcome, asked, checkQuestion}
-use Rattle.saiga.specs.Calls.{Call, Lent, leaves, call, afterCalls, answers}
+use Rattle.saiga.specs.Ask.{Lent, Call, asking, Answer, Outcome, asked, checkQuestion, ask}
+use Rattle.saiga.specs.Calls.{leaves, afterCalls, answers}
 
 -- "It ends with a value or on null, and n is the count then": the endings and the n of plain Saiga, on an accepted sheet and question.
 pub data PlainEnding : Type 0 where
@@ -38,7 +38,7 @@ pub record First (capacity : ℕ) (m : Lent) : Type 0 where
 
 -- A place in a list of calls is what stands before it. The outcome there of a question with a budget:
 abbrev pub at-place : List ℕ → Lent → List Call → List ℕ → ℕ → Outcome
-at-place sheet first before question budget = call sheet (afterCalls sheet first before) record { question = question; budget = budget }
+at-place sheet first before question budget = ask sheet (afterCalls sheet first before) (asking question budget)
 
 -- What is claimed of the bytes of an accepted sheet s. The list is any list of calls, with any question bytes and any budgets.
 pub record OfSheet (sheet : List ℕ) (s : Sheet) : Type 0 where
@@ -47,7 +47,7 @@ pub record OfSheet (sheet : List ℕ) (s : Sheet) : Type 0 where
   pub places :
       (first : Lent) (before : List Call) (question : List ℕ) (budget : ℕ) (after : List Call) →
       let o = at-place sheet first before question budget in
-      answers sheet first (before ++ record { question = question; budget = budget } ∷ after)
+      answers sheet first (before ++ asking question budget ∷ after)
       ≡ answers sheet first before ++ o .answer ∷ answers sheet (leaves o) after
   -- Complete: if plain Saiga ends with a value or on null in n steps, every permitted budget of n or more, put there, brings that
   -- ending in at most n steps, or stop 16.
@@ -79,9 +79,9 @@ pub record OfSheet (sheet : List ℕ) (s : Sheet) : Type 0 where
   -- Larger budgets: from any one store, right or wrong in its values, reached by a list or not, every larger permitted budget gives the
   -- same answer, all fields, and leaves the same store, every byte, unless the smaller budget's was 15.
   pub larger-budgets :
-      (lent : Lent) (question : List ℕ) (budget budget′ : ℕ) → budget ≤ budget′ → budget′ ≤ 1000000 →
-      let small = call sheet lent record { question = question; budget = budget } in
-      (small .answer .number ≡ 15 → ⊥) → call sheet lent record { question = question; budget = budget′ } ≡ small
+      (m : Lent) (question : List ℕ) (budget budget′ : ℕ) → budget ≤ budget′ → budget′ ≤ 1000000 →
+      let small = ask sheet m (asking question budget) in
+      (small .answer .number ≡ 15 → ⊥) → ask sheet m (asking question budget′) ≡ small
 
 -- Demand 3: the claims hold of every sheet that the check accepts.
 abbrev pub Demand3 : Type 0

@@ -6,8 +6,8 @@ use Prim.Native.Nat.{ℕ}
 use lib.IntN.{pos, negsuc}
 use Rattle.saiga.specs.Sheet.{context}
 use Rattle.saiga.specs.Plain.{EndsOnNull}
-use Rattle.saiga.specs.Ask.{Answer, asked}
-use Rattle.saiga.specs.TableL.{sheetL, put-to, Row, row, bring, brought, Plainly}
+use Rattle.saiga.specs.Ask.{asking, Answer, asked}
+use Rattle.saiga.specs.TableL.{sheetL, Row, row, bring, brought, Plainly}
 use Rattle.saiga.specs.Rows.{unit-literal, whole, lowest-int, highest-int, minus-one, true-literal, false-literal, null-literal, node-literal, one, two, if-then-else, attribute-of, this-node, the-parameter, rule-for, asks, ends-with, an-int, a-bool, stop}
 
 -- ---- Sheets
@@ -95,10 +95,10 @@ inside a x = attribute-of a (node-literal 0) x
 abbrev pub runs : List Row
 runs =
     -- One entry for each parameter: next(3) and next(4) take 3 steps each (AttrApp, two AppApp), next(3) again 1.
-    row sheetP 4 (put-to (next (whole 3)) 1000000 ∷ put-to (next (whole 4)) 1000000 ∷ put-to (next (whole 3)) 1000000 ∷ [])
+    row sheetP 4 (asking (next (whole 3)) 1000000 ∷ asking (next (whole 4)) 1000000 ∷ asking (next (whole 3)) 1000000 ∷ [])
     (an-int (pos 4) 3 1 ∷ an-int (pos 5) 3 2 ∷ an-int (pos 4) 1 2 ∷ []) ∷
     -- A figure comes before the rule and holds for every parameter; its AttrApp counts one, and it is kept. Node 1 has the rule.
-    row sheetP 4 (put-to (fixed (whole 7)) 1000000 ∷ put-to (fixed (whole 7)) 1000000 ∷ put-to (fixed (whole 6)) 1000000 ∷ put-to (attribute-of 1 (node-literal 1) (whole 7)) 1000000 ∷ [])
+    row sheetP 4 (asking (fixed (whole 7)) 1000000 ∷ asking (fixed (whole 7)) 1000000 ∷ asking (fixed (whole 6)) 1000000 ∷ asking (attribute-of 1 (node-literal 1) (whole 7)) 1000000 ∷ [])
     (an-int (pos 9) 1 1 ∷ an-int (pos 9) 1 1 ∷ an-int (pos 9) 1 2 ∷ an-int (pos 8) 1 3 ∷ []) ∷
     -- Null is tested when the parameter is a value: its two AppApp count before 14, and 15 comes first where they are not paid for.
     asks sheetP 4 (next-of-null (two 4 (whole 1) (whole 2))) 1000000 (stop 14 2 0) ∷
@@ -106,10 +106,10 @@ runs =
     asks sheetP 4 (next-of-null (two 4 (whole 1) (whole 2))) 1 (stop 15 1 0) ∷
     asks sheetP 4 (next-of-null (next (whole 3))) 1000000 (stop 14 3 1) ∷
     -- A full store drops nothing, and CacheWrite then changes nothing.
-    row sheetP 1 (put-to (next (whole 3)) 1000000 ∷ put-to (next (whole 4)) 1000000 ∷ put-to (next (whole 4)) 1000000 ∷ put-to (next (whole 3)) 1000000 ∷ [])
+    row sheetP 1 (asking (next (whole 3)) 1000000 ∷ asking (next (whole 4)) 1000000 ∷ asking (next (whole 4)) 1000000 ∷ asking (next (whole 3)) 1000000 ∷ [])
     (an-int (pos 4) 3 1 ∷ an-int (pos 5) 3 1 ∷ an-int (pos 5) 3 1 ∷ an-int (pos 4) 1 1 ∷ []) ∷
     -- Depth: down(0) is kept and due inside the 64 forms of down(64) to down(1), after 64 × 6 steps. Inside 63, after 63 × 6, it is taken.
-    row sheetDown 1 (put-to (down 0 0) 1000000 ∷ put-to (down 0 64) 1000000 ∷ put-to (down 0 63) 1000000 ∷ [])
+    row sheetDown 1 (asking (down 0 0) 1000000 ∷ asking (down 0 64) 1000000 ∷ asking (down 0 63) 1000000 ∷ [])
     (an-int (pos 0) 4 1 ∷ stop 16 384 1 ∷ an-int (pos 0) 379 1 ∷ []) ∷
     -- 14 before 15 and 16: down of null is due inside the 64 forms of down(63) to down(0), after 63 × 6 + 4 steps, the whole budget.
     asks sheetDown 1 (down 1 63) 382 (stop 14 382 0) ∷

@@ -3,8 +3,8 @@ use mathlib.Core.List.{List, [], _∷_, _++_}
 use Prim.Native.Nat.{ℕ, zero, suc}
 use lib.ListN.{length}
 use lib.IntN.{ℤ, pos}
-use Rattle.saiga.specs.Ask.{Answer}
-use Rattle.saiga.specs.TableL.{five, put-to, answer, Row, row}
+use Rattle.saiga.specs.Ask.{asking, Answer}
+use Rattle.saiga.specs.TableL.{five, answer, Row, row}
 
 -- ---- Expressions and rules in bytes
 
@@ -70,7 +70,7 @@ rule-for kind a e = 0x52 ∷ kind ∷ a ∷ length e ∷ 0 ∷ e
 
 -- one question
 abbrev pub asks : List ℕ → ℕ → List ℕ → ℕ → Answer → Row
-asks sheet capacity question budget a = row sheet capacity (put-to question budget ∷ []) (a ∷ [])
+asks sheet capacity question budget a = row sheet capacity (asking question budget ∷ []) (a ∷ [])
 
 -- a value, and a stop of the run
 abbrev pub ends-with : ℕ → ℤ → ℕ → ℕ → Answer

@@ -11,8 +11,8 @@ use Rattle.saiga.specs.Sheet.{Sheet, accepted, checkSheet, context}
 use Rattle.saiga.specs.Plain.{EndsWithValue, EndsOnNull, RunsForEver}
 use Rattle.saiga.specs.Caching.{Entry}
 use Rattle.saiga.specs.Store.{entriesBytes}
-use Rattle.saiga.specs.Ask.{Answer, checkQuestion, asked}
-use Rattle.saiga.specs.Calls.{Call, empty, answers, afterCalls}
+use Rattle.saiga.specs.Ask.{Call, asking, Answer, checkQuestion, asked}
+use Rattle.saiga.specs.Calls.{empty, answers, afterCalls}
 
 -- "Sheet L, 103 bytes: attributes up (0, Node), own (1, Int), dial (2, Int), all with Unit parameter. Nodes 0 (kind 0), 1 and 2
 -- (kind 1). Figures: up is null, 0, 0; own is 700, 0, 811. Rules: dial for kind 0 is own of this node; for kind 1,
@@ -63,9 +63,6 @@ overTheEnd = 0x21 ∷ 0x21 ∷ 0x14 ∷ 0x04 ∷ 0x12 ∷ 0xFF ∷ 0xFF ∷ 0xFF
 
 -- ---- The table
 
-abbrev pub put-to : List ℕ → ℕ → Call
-put-to question budget = record { question = question; budget = budget }
-
 abbrev pub answer : ℕ → ℕ → ℕ → ℤ → ℕ → ℕ → Answer
 answer number place type value steps kept =
     record { number = number; place = place; type = type; value = value; steps = steps; kept = kept }
@@ -84,33 +81,33 @@ row sheet capacity calls brings = record { sheet = sheet; capacity = capacity; c
 abbrev pub tableL : List Row
 tableL =
     -- L1 and L4: "D: 700, steps 8, kept 5"; "D again after L1: steps 1"
-    row sheetL 1024 (put-to D 1000000 ∷ put-to D 1000000 ∷ []) (answer 0 0 2 (pos 700) 8 5 ∷ answer 0 0 2 (pos 700) 1 5 ∷ []) ∷
+    row sheetL 1024 (asking D 1000000 ∷ asking D 1000000 ∷ []) (answer 0 0 2 (pos 700) 8 5 ∷ answer 0 0 2 (pos 700) 1 5 ∷ []) ∷
     -- L2: "budget 7: 15, steps 7, kept 2"
-    row sheetL 1024 (put-to D 7 ∷ []) (answer 15 0 0 (pos 0) 7 2 ∷ []) ∷
+    row sheetL 1024 (asking D 7 ∷ []) (answer 15 0 0 (pos 0) 7 2 ∷ []) ∷
     -- L3: "budget 8: as L1"
-    row sheetL 1024 (put-to D 8 ∷ []) (answer 0 0 2 (pos 700) 8 5 ∷ []) ∷
+    row sheetL 1024 (asking D 8 ∷ []) (answer 0 0 2 (pos 700) 8 5 ∷ []) ∷
     -- L5: "node 2's dial alone: 811, steps 6, kept 2"
-    row sheetL 1024 (put-to node2Dial 1000000 ∷ []) (answer 0 0 2 (pos 811) 6 2 ∷ []) ∷
+    row sheetL 1024 (asking node2Dial 1000000 ∷ []) (answer 0 0 2 (pos 811) 6 2 ∷ []) ∷
     -- L6: "equal(D)(D): true in 11"
-    row sheetL 1024 (put-to equalDD 1000000 ∷ []) (answer 0 0 1 (pos 1) 11 5 ∷ []) ∷
+    row sheetL 1024 (asking equalDD 1000000 ∷ []) (answer 0 0 1 (pos 1) 11 5 ∷ []) ∷
     -- L7: "capacity 0: 18"
-    row sheetL 0 (put-to equalDD 1000000 ∷ []) (answer 0 0 1 (pos 1) 18 0 ∷ []) ∷
+    row sheetL 0 (asking equalDD 1000000 ∷ []) (answer 0 0 1 (pos 1) 18 0 ∷ []) ∷
     -- L8: "capacity 4: 17"
-    row sheetL 4 (put-to equalDD 1000000 ∷ []) (answer 0 0 1 (pos 1) 17 4 ∷ []) ∷
+    row sheetL 4 (asking equalDD 1000000 ∷ []) (answer 0 0 1 (pos 1) 17 4 ∷ []) ∷
     -- L9: "capacity 5: 11"
-    row sheetL 5 (put-to equalDD 1000000 ∷ []) (answer 0 0 1 (pos 1) 11 5 ∷ []) ∷
+    row sheetL 5 (asking equalDD 1000000 ∷ []) (answer 0 0 1 (pos 1) 11 5 ∷ []) ∷
     -- L10: "own of (node 0's up): 14, steps 1, kept 1"
-    row sheetL 1024 (put-to ownOfUp 1000000 ∷ []) (answer 14 0 0 (pos 0) 1 1 ∷ []) ∷
+    row sheetL 1024 (asking ownOfUp 1000000 ∷ []) (answer 14 0 0 (pos 0) 1 1 ∷ []) ∷
     -- L11: "question Int 5, budget 0: 5, steps 0"
-    row sheetL 1024 (put-to five 0 ∷ []) (answer 0 0 2 (pos 5) 0 0 ∷ []) ∷
+    row sheetL 1024 (asking five 0 ∷ []) (answer 0 0 2 (pos 5) 0 0 ∷ []) ∷
     -- L12: "an attribute defined as itself: budget 65 gives 16 after 64 steps; budget 64 gives 15"
-    row sheetL12 1024 (put-to itself 65 ∷ []) (answer 16 0 0 (pos 0) 64 0 ∷ []) ∷
-    row sheetL12 1024 (put-to itself 64 ∷ []) (answer 15 0 0 (pos 0) 64 0 ∷ []) ∷
+    row sheetL12 1024 (asking itself 65 ∷ []) (answer 16 0 0 (pos 0) 64 0 ∷ []) ∷
+    row sheetL12 1024 (asking itself 64 ∷ []) (answer 15 0 0 (pos 0) 64 0 ∷ []) ∷
     -- L13: "add(2,147,483,647)(1) is 2,147,483,647"
-    row sheetL 1024 (put-to overTheEnd 1000000 ∷ []) (answer 0 0 2 (pos 2147483647) 2 0 ∷ []) ∷
+    row sheetL 1024 (asking overTheEnd 1000000 ∷ []) (answer 0 0 2 (pos 2147483647) 2 0 ∷ []) ∷
     -- "Empty sheet: 2 at 0. The single byte 0x5A is accepted."
-    row [] 1024 (put-to five 0 ∷ []) (answer 2 0 0 (pos 0) 0 0 ∷ []) ∷
-    row (0x5A ∷ []) 1024 (put-to five 0 ∷ []) (answer 0 0 2 (pos 5) 0 0 ∷ []) ∷
+    row [] 1024 (asking five 0 ∷ []) (answer 2 0 0 (pos 0) 0 0 ∷ []) ∷
+    row (0x5A ∷ []) 1024 (asking five 0 ∷ []) (answer 0 0 2 (pos 5) 0 0 ∷ []) ∷
     []
 
 -- L1 keeps "1.own, 1.up, 0.own, 0.dial, 1.dial in that order"
@@ -135,7 +132,7 @@ unfoldable pub TableL : Type 0
 TableL =
     (length sheetL ≡ 103)
     × (bring tableL ≡ brought tableL)
-    × (take 60 (afterCalls sheetL (empty 1024) (put-to D 1000000 ∷ []) .store) ≡ entriesBytes keptL1)
+    × (take 60 (afterCalls sheetL (empty 1024) (asking D 1000000 ∷ []) .store) ≡ entriesBytes keptL1)
 
 -- ---- Plain Saiga on the same bytes
 

@@ -4,9 +4,8 @@ use mathlib.Core.Path.{_≡_}
 use Prim.Native.Nat.{ℕ}
 use lib.ListN.{replicate}
 use lib.IntN.{pos, negsuc}
-use Rattle.saiga.specs.Ask.{Answer, Outcome}
-use Rattle.saiga.specs.Calls.{Call, Lent, call}
-use Rattle.saiga.specs.TableL.{sheetL, D, five, put-to, answer}
+use Rattle.saiga.specs.Ask.{Lent, lent, Call, asking, Answer, Outcome, ask}
+use Rattle.saiga.specs.TableL.{sheetL, D, five, answer}
 use Rattle.saiga.specs.Rows.{times, whole, minus-one, null-literal, node-literal, two, attribute-of, rule-for, the-parameter, ends-with, an-int, stop}
 use Rattle.saiga.specs.Misreadings.{sheetP, next}
 use Rattle.saiga.specs.TableStops.{front, sheetF}
@@ -20,7 +19,7 @@ pub record Case : Type 0 where
 
 abbrev pub case : List ℕ → List ℕ → ℕ → Call → Answer → List ℕ → Case
 case sheet store kept asked answer left =
-    record { sheet = sheet; lent = record { store = store; kept = kept }; asked = asked; outcome = record { answer = answer; store = left } }
+    record { sheet = sheet; lent = lent store kept; asked = asked; outcome = record { answer = answer; store = left } }
 
 -- "An entry is node (2), attribute (1), a zero byte, parameter (4), value (4)", each number below 256.
 abbrev pub entry : ℕ → ℕ → ℕ → ℕ → List ℕ
@@ -41,25 +40,25 @@ a-node n steps kept = ends-with 3 (pos n) steps kept
 abbrev pub stores : List Case
 stores =
     -- A question that stops leaves what was finished, 1.own and 1.up, nothing of what was open, and the bytes behind.
-    case sheetL (replicate 36 7) 0 (put-to D 7) (stop 15 7 2) (entry 1 1 0 0 ++ entry 1 0 0 0 ++ replicate 12 7) ∷
+    case sheetL (replicate 36 7) 0 (asking D 7) (stop 15 7 2) (entry 1 1 0 0 ++ entry 1 0 0 0 ++ replicate 12 7) ∷
     -- Taken up again, it keeps 0.own where there is room, and then nothing more.
-    case sheetL (entry 1 1 0 0 ++ entry 1 0 0 0 ++ replicate 12 7) 2 (put-to D 1000000) (an-int (pos 700) 8 3)
+    case sheetL (entry 1 1 0 0 ++ entry 1 0 0 0 ++ replicate 12 7) 2 (asking D 1000000) (an-int (pos 700) 8 3)
     (entry 1 1 0 0 ++ entry 1 0 0 0 ++ 0 ∷ 0 ∷ 1 ∷ 0 ∷ 0 ∷ 0 ∷ 0 ∷ 0 ∷ 0xBC ∷ 2 ∷ 0 ∷ 0 ∷ []) ∷
     -- A full store is left as it was. add(next(3))(add(next(4))(next(3))) takes the last from it: 3 + 1, 3 + 1, 1, and two AppApp.
-    case sheetP (entry 0 0 3 4) 1 (put-to (next (whole 4)) 1000000) (an-int (pos 5) 3 1) (entry 0 0 3 4) ∷
-    case sheetP (replicate 12 0) 0 (put-to (two 4 (next (whole 3)) (two 4 (next (whole 4)) (next (whole 3)))) 1000000) (an-int (pos 13) 11 1)
+    case sheetP (entry 0 0 3 4) 1 (asking (next (whole 4)) 1000000) (an-int (pos 5) 3 1) (entry 0 0 3 4) ∷
+    case sheetP (replicate 12 0) 0 (asking (two 4 (next (whole 3)) (two 4 (next (whole 4)) (next (whole 3)))) 1000000) (an-int (pos 13) 11 1)
     (entry 0 0 3 4) ∷
     -- A kept value is taken, right or wrong; bytes that are not kept are none.
-    case sheetP (entry 0 0 3 100) 1 (put-to (next (whole 3)) 1000000) (an-int (pos 100) 1 1) (entry 0 0 3 100) ∷
-    case sheetP (entry 0 0 3 100) 0 (put-to (next (whole 3)) 1000000) (an-int (pos 4) 3 1) (entry 0 0 3 4) ∷
+    case sheetP (entry 0 0 3 100) 1 (asking (next (whole 3)) 1000000) (an-int (pos 100) 1 1) (entry 0 0 3 100) ∷
+    case sheetP (entry 0 0 3 100) 0 (asking (next (whole 3)) 1000000) (an-int (pos 4) 3 1) (entry 0 0 3 4) ∷
     -- "Left part before right part": subtract(next(3))(next(4)).
-    case sheetP (replicate 24 0) 0 (put-to (two 5 (next (whole 3)) (next (whole 4))) 1000000) (an-int (negsuc 0) 8 2)
+    case sheetP (replicate 24 0) 0 (asking (two 5 (next (whole 3)) (next (whole 4))) 1000000) (an-int (negsuc 0) 8 2)
     (entry 0 0 3 4 ++ entry 0 0 4 5) ∷
     -- And node part before parameter part: echo of 0.echo(1) with 0.echo(0).
-    case (sheetEcho 2) (replicate 36 0) 0 (put-to (echo (echo (node-literal 0) (node-literal 1)) (echo (node-literal 0) (node-literal 0))) 1000000)
+    case (sheetEcho 2) (replicate 36 0) 0 (asking (echo (echo (node-literal 0) (node-literal 1)) (echo (node-literal 0) (node-literal 0))) 1000000)
     (a-node 0 3 3) (entry 0 0 1 1 ++ entry 0 0 0 0 ++ entry 1 0 0 0) ∷
     -- next(−1) is 0: two's complement.
-    case sheetP (replicate 12 0) 0 (put-to (next minus-one) 1000000) (an-int (pos 0) 3 1)
+    case sheetP (replicate 12 0) 0 (asking (next minus-one) 1000000) (an-int (pos 0) 3 1)
     (0 ∷ 0 ∷ 0 ∷ 0 ∷ 0xFF ∷ 0xFF ∷ 0xFF ∷ 0xFF ∷ 0 ∷ 0 ∷ 0 ∷ 0 ∷ []) ∷
     []
 
@@ -79,22 +78,22 @@ wide-kept =
 abbrev pub node-entries : List Case
 node-entries =
     -- Null as parameter and as value, FF FF 00 00: 0.echo(null).
-    case (sheetEcho 2) (replicate 12 7) 0 (put-to (echo (node-literal 0) null-literal) 1000000) (a-node 65535 1 1)
+    case (sheetEcho 2) (replicate 12 7) 0 (asking (echo (node-literal 0) null-literal) 1000000) (a-node 65535 1 1)
     (0 ∷ 0 ∷ 0 ∷ 0 ∷ 0xFF ∷ 0xFF ∷ 0 ∷ 0 ∷ 0xFF ∷ 0xFF ∷ 0 ∷ 0 ∷ []) ∷
     -- "AttrApp takes a kept value before σ", where value and parameter are null too: 0.echo(0.echo(0)).
-    case (sheetEcho 2) null-kept 2 (put-to (echo (node-literal 0) (echo (node-literal 0) (node-literal 0))) 1000000) (a-node 1 2 2) null-kept ∷
+    case (sheetEcho 2) null-kept 2 (asking (echo (node-literal 0) (echo (node-literal 0) (node-literal 0))) 1000000) (a-node 1 2 2) null-kept ∷
     -- Node 257 is 01 01, and node 256, a value, 00 01 00 00: 257.echo(256).
-    case (sheetEcho 258) (replicate 12 7) 0 (put-to (echo (0x13 ∷ 1 ∷ 1 ∷ []) (0x13 ∷ 0 ∷ 1 ∷ [])) 1000000) (a-node 256 1 1)
+    case (sheetEcho 258) (replicate 12 7) 0 (asking (echo (0x13 ∷ 1 ∷ 1 ∷ []) (0x13 ∷ 0 ∷ 1 ∷ [])) 1000000) (a-node 256 1 1)
     (1 ∷ 1 ∷ 0 ∷ 0 ∷ 0 ∷ 1 ∷ 0 ∷ 0 ∷ 0 ∷ 1 ∷ 0 ∷ 0 ∷ []) ∷
     -- 257.echo(0) is another occurrence than 1.echo(0), kept before it, and its own value is taken.
-    case (sheetEcho 258) wide-kept 2 (put-to (echo (0x13 ∷ 1 ∷ 1 ∷ []) (node-literal 0)) 1000000) (a-node 256 1 2) wide-kept ∷
+    case (sheetEcho 258) wide-kept 2 (asking (echo (0x13 ∷ 1 ∷ 1 ∷ []) (node-literal 0)) 1000000) (a-node 256 1 2) wide-kept ∷
     []
 
 -- ---- The stops of the store
 
 -- "kept and store are as lent"
 abbrev pub refuses-lent : List ℕ → List ℕ → ℕ → ℕ → ℕ → Case
-refuses-lent sheet store kept number place = case sheet store kept (put-to [] 1000001) (answer number place 0 (pos 0) 0 kept) store
+refuses-lent sheet store kept number place = case sheet store kept (asking [] 1000001) (answer number place 0 (pos 0) 0 kept) store
 
 abbrev pub refuses-store : List ℕ → ℕ → ℕ → ℕ → Case
 refuses-store store kept number place = refuses-lent sheetF store kept number place
@@ -119,15 +118,15 @@ lent-stores =
     refuses-lent (sheetEcho 2) (0 ∷ 0 ∷ 0 ∷ 0 ∷ 0xFF ∷ 0xFF ∷ 1 ∷ 0 ∷ 0 ∷ 0 ∷ 0 ∷ 0 ∷ []) 1 10 0 ∷
     refuses-store (entry 0 0 3 4 ++ entry 0 0 4 4 ++ entry 0 0 3 5) 3 10 2 ∷
     -- 8 before 9
-    case (front ++ 0x5A ∷ []) (replicate 16 7) 1 (put-to [] 1000001) (answer 8 0 0 (pos 0) 0 1) (replicate 16 7) ∷
+    case (front ++ 0x5A ∷ []) (replicate 16 7) 1 (asking [] 1000001) (answer 8 0 0 (pos 0) 0 1) (replicate 16 7) ∷
     -- accepted: another parameter is another occurrence, and an entry past the kept ones is not looked at
-    case sheetF (entry 0 0 3 4 ++ entry 0 0 4 4 ++ entry 1 2 1 2) 2 (put-to five 0) (an-int (pos 5) 0 2)
+    case sheetF (entry 0 0 3 4 ++ entry 0 0 4 4 ++ entry 1 2 1 2) 2 (asking five 0) (an-int (pos 5) 0 2)
     (entry 0 0 3 4 ++ entry 0 0 4 4 ++ entry 1 2 1 2) ∷
     []
 
 unfoldable pub outcomes : List Case → List Outcome
 outcomes [] = []
-outcomes (c ∷ l) = call (c .sheet) (c .lent) (c .asked) ∷ outcomes l
+outcomes (c ∷ l) = ask (c .sheet) (c .lent) (c .asked) ∷ outcomes l
 
 abbrev pub expected : List Case → List Outcome
 expected [] = []

@@ -7,7 +7,7 @@ ghost use mathlib.Core.List.{_∷_, []};
 ghost use mathlib.Core.Path.{_≡_};
 ghost use Prim.Native.Nat.{ℕ, min};
 ghost use lib.ListN.{length};
-ghost use Rattle.saiga.specs.Ask.{checkCall, ask};
+ghost use Rattle.saiga.specs.Ask.{lent, asking, checkCall, ask};
 ghost use Rattle.saiga.specs.Sheet.{checkSheet};
 ghost use Rattle.calls.specs.Answers.{answerOf};
 ghost use Rattle.calls.specs.Prepared.{PreparedSheet, PreparedStore};
@@ -27,8 +27,8 @@ pub extern "C" fn sofretu_check(
     budget: u64,
     place: &mut u64,
 ) -> u32
-    ensures { λ r. ⌜ r ≡ numberOf (checkCall (now (sheet .entry)) (now (store .entry)) kept (now (question .entry)) budget) ⌝ }
-    ensures { λ _. ⌜ now (place .exit) ≡ placeOf (checkCall (now (sheet .entry)) (now (store .entry)) kept (now (question .entry)) budget) ⌝ }
+    ensures { λ r. ⌜ r ≡ numberOf (checkCall (now (sheet .entry)) (lent (now (store .entry)) kept) (asking (now (question .entry)) budget)) ⌝ }
+    ensures { λ _. ⌜ now (place .exit) ≡ placeOf (checkCall (now (sheet .entry)) (lent (now (store .entry)) kept) (asking (now (question .entry)) budget)) ⌝ }
 {
     let mut index = [0u32; 33280];
     let mut links = [0u32; 2048];
@@ -105,11 +105,11 @@ pub extern "C" fn sofretu_ask_in<'a>(
     forms: &mut [u32; 256],
     answer: &mut [i64; 6],
 )
-    ensures { λ _. ⌜ now (answer .exit) ≡ six (ask (now (sheet .entry)) (now (store .entry)) kept (now (question .entry)) budget .answer) ⌝ }
-    ensures { λ _. ⌜ now (store .exit) ≡ ask (now (sheet .entry)) (now (store .entry)) kept (now (question .entry)) budget .store ⌝ }
+    ensures { λ _. ⌜ now (answer .exit) ≡ six (ask (now (sheet .entry)) (lent (now (store .entry)) kept) (asking (now (question .entry)) budget) .answer) ⌝ }
+    ensures { λ _. ⌜ now (store .exit) ≡ ask (now (sheet .entry)) (lent (now (store .entry)) kept) (asking (now (question .entry)) budget) .store ⌝ }
     ensures { λ _. ⌜ Indexes (now (sheet .entry)) (now (store .exit))
-        (ask (now (sheet .entry)) (now (store .entry)) kept (now (question .entry)) budget .answer .kept) (now (index .exit)) (now (links .exit)) ⌝ }
-    ensures { λ _. ⌜ RunScratch (checkCall (now (sheet .entry)) (now (store .entry)) kept (now (question .entry)) budget)
+        (ask (now (sheet .entry)) (lent (now (store .entry)) kept) (asking (now (question .entry)) budget) .answer .kept) (now (index .exit)) (now (links .exit)) ⌝ }
+    ensures { λ _. ⌜ RunScratch (checkCall (now (sheet .entry)) (lent (now (store .entry)) kept) (asking (now (question .entry)) budget))
         (now (frames .entry)) (now (forms .entry)) (now (frames .exit)) (now (forms .exit)) ⌝ }
 {
     let a = calls::ask(
@@ -136,8 +136,8 @@ pub extern "C" fn sofretu_ask<'a>(
     budget: u64,
     answer: &mut [i64; 6],
 )
-    ensures { λ _. ⌜ now (answer .exit) ≡ six (ask (now (sheet .entry)) (now (store .entry)) kept (now (question .entry)) budget .answer) ⌝ }
-    ensures { λ _. ⌜ now (store .exit) ≡ ask (now (sheet .entry)) (now (store .entry)) kept (now (question .entry)) budget .store ⌝ }
+    ensures { λ _. ⌜ now (answer .exit) ≡ six (ask (now (sheet .entry)) (lent (now (store .entry)) kept) (asking (now (question .entry)) budget) .answer) ⌝ }
+    ensures { λ _. ⌜ now (store .exit) ≡ ask (now (sheet .entry)) (lent (now (store .entry)) kept) (asking (now (question .entry)) budget) .store ⌝ }
 {
     let mut index = [0u32; 33280];
     let mut links = [0u32; 2048];
@@ -241,11 +241,11 @@ pub extern "C" fn sofretu_ask_checked<'a>(
 )
     requires { ⌜ PreparedSheet (now sheet) (now index) attributes nodes ⌝ }
     requires { ⌜ PreparedStore (now sheet) (now store) kept (now links) ⌝ }
-    ensures { λ _. ⌜ now (answer .exit) ≡ six (ask (now (sheet .entry)) (now (store .entry)) kept (now (question .entry)) budget .answer) ⌝ }
-    ensures { λ _. ⌜ now (store .exit) ≡ ask (now (sheet .entry)) (now (store .entry)) kept (now (question .entry)) budget .store ⌝ }
+    ensures { λ _. ⌜ now (answer .exit) ≡ six (ask (now (sheet .entry)) (lent (now (store .entry)) kept) (asking (now (question .entry)) budget) .answer) ⌝ }
+    ensures { λ _. ⌜ now (store .exit) ≡ ask (now (sheet .entry)) (lent (now (store .entry)) kept) (asking (now (question .entry)) budget) .store ⌝ }
     ensures { λ _. ⌜ PreparedStore (now (sheet .entry)) (now (store .exit))
-        (ask (now (sheet .entry)) (now (store .entry)) kept (now (question .entry)) budget .answer .kept) (now (links .exit)) ⌝ }
-    ensures { λ _. ⌜ RunScratch (checkCall (now (sheet .entry)) (now (store .entry)) kept (now (question .entry)) budget)
+        (ask (now (sheet .entry)) (lent (now (store .entry)) kept) (asking (now (question .entry)) budget) .answer .kept) (now (links .exit)) ⌝ }
+    ensures { λ _. ⌜ RunScratch (checkCall (now (sheet .entry)) (lent (now (store .entry)) kept) (asking (now (question .entry)) budget))
         (now (frames .entry)) (now (forms .entry)) (now (frames .exit)) (now (forms .exit)) ⌝ }
 {
     let a = calls::ask_checked(

@@ -34,7 +34,7 @@ returns c =
     let at-check = at-number .before .before in
     let at-check-arg = at-check .before .before .before in
     let stops = checked-refused (at-check .check .ensures) (at-number .number .given .1) in
-    let (answer, left) = refuses _ _ _ _ _ (c .refuse .result) stops (c .refuse .ensures) in
+    let (answer, left) = refuses _ _ _ (c .refuse .result) stops (c .refuse .ensures) in
     (answer, (left, (rw (refusal-keeps _ _ _ (c .refuse .result) (c .refuse .ensures)) (at-check .check .ensures .scratch), scratch-as-lent (search (needs, at-check-arg .before .before .words .given)) (search (needs, at-check-arg .before .marks .given)))))
 
 same-length-2 : tie.Need-same-length-2

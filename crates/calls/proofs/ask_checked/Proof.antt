@@ -35,7 +35,7 @@ returns c =
     let at-words = at-marks .before in
     let at-shared-slice-known3 = at-words .before .before .before in
     let stops = question-refused (at-shared-slice-known3 .before .before .before .pre .0) (at-shared-slice-known3 .before .before .before .pre .1) _ _ (at-number .before .before .check-question .ensures) (at-number .number .given .1) in
-    let (answer, left) = refuses _ _ _ _ _ (c .refuse .result) stops (c .refuse .ensures) in
+    let (answer, left) = refuses _ _ _ (c .refuse .result) stops (c .refuse .ensures) in
     (answer, (left, (prepared-again (at-shared-slice-known3 .before .before .before .pre .0) (at-shared-slice-known3 .before .before .before .pre .1) _ _ (c .refuse .result) answer left (rw (refusal-keeps _ _ _ (c .refuse .result) (c .refuse .ensures)) (at-shared-slice-known3 .before .before .before .pre .1 .linked)), scratch-as-lent (search (needs, at-words .words .given)) (search (needs, at-marks .marks .given)))))
 
 same-length : tie.Need-same-length

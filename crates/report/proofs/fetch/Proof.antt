@@ -2,7 +2,7 @@
 use mathlib.Core.Path.{sym, ap, _∙_}
 use native.Mathlib.Omega.{arith}
 use borrow.Author.Needs.{needs}
-use Rattle.report.specs.Report.{lent}
+use Rattle.saiga.specs.Ask.{lent}
 use Rattle.report.proofs.Turns.{view, more-room, fetched-hand}
 use Rattle.report.proofs.fetch.Statement.{statement}
 use Rattle.report.proofs.fetch.Tie as tie

@@ -4,7 +4,7 @@ use Prim.Native.Nat.{_≤_}
 use native.Mathlib.Omega.{arith}
 use lib.ListN.{length}
 use borrow.Author.Needs.{needs}
-use Rattle.report.specs.Report.{lent, after, viewOf, chunkOf}
+use Rattle.report.specs.Report.{after, viewOf, chunkOf}
 use Rattle.report.proofs.Turns.{question-within, question-bytes, question-rest, more-hand, more-ended, left-question, left-cut, left-end, left-more, line-question, line-cut, line-end, line-more}
 use Rattle.report.proofs.turn.Statement.{statement}
 use Rattle.report.proofs.turn.Tie as tie

@@ -17,12 +17,12 @@ check-from-store-requires : tie.Need-check-from-store-requires
 check-from-store-requires c κs = (attributes-fit (sheet-prepared (c .before .before .before .check .ensures) (c .before .attributes .given .1)), search needs)
 
 returns : tie.Need-returns
-returns c = sheet-stops (c .before .before .before .check .ensures) _ _ _ _ (c .before .number .given .1) (search needs)
+returns c = sheet-stops (c .before .before .before .check .ensures) _ _ (c .before .number .given .1) (search needs)
 
 returns-2 : tie.Need-returns-2
 returns-2 c =
     let at-attributes = c .before .before in
-    sheet-passes (at-attributes .before .before .check .ensures) _ _ _ _ (at-attributes .attributes .given .1) (c .check-from-store .ensures)
+    sheet-passes (at-attributes .before .before .check .ensures) _ _ (at-attributes .attributes .given .1) (c .check-from-store .ensures)
 
 pub check-spec : {M : Type 1} → statement M
 check-spec =

@@ -29,7 +29,7 @@ returns : tie.Need-returns
 returns c =
     let at-number = c .before in
     let at-links = at-number .before .before .before in
-    store-stops _ _ (at-links .before .check .ensures) (at-number .number .given .1)
+    store-stops _ (at-links .before .check .ensures) (at-number .number .given .1)
 
 same-length-2 : tie.Need-same-length-2
 same-length-2 c = search needs
@@ -39,7 +39,7 @@ returns-2 c =
     let at-check-question = c .before .before .before in
     let at-enum-told = at-check-question .before in
     let at-links = at-enum-told .before .before .before in
-    question-stops _ _ (at-links .before .check .ensures) (at-enum-told .enum-told .given .1) (at-check-question .check-question .ensures) (c .before .number2 .given .1)
+    question-stops _ (at-links .before .check .ensures) (at-enum-told .enum-told .given .1) (at-check-question .check-question .ensures) (c .before .number2 .given .1)
 
 same-length-3 : tie.Need-same-length-3
 same-length-3 c = search needs
@@ -48,7 +48,7 @@ returns-3 : tie.Need-returns-3
 returns-3 c =
     let at-enum-told = c .before .before .before in
     let at-links = at-enum-told .before .before .before in
-    question-passes _ _ (at-links .before .check .ensures) (at-enum-told .enum-told .given .1) (c .before .before .check-question .ensures) (c .enum-told2 .given .1)
+    question-passes _ (at-links .before .check .ensures) (at-enum-told .enum-told .given .1) (c .before .before .check-question .ensures) (c .enum-told2 .given .1)
 
 pub check-from-store-spec : {M : Type 1} → statement M
 check-from-store-spec =
