@@ -8,7 +8,7 @@ use borrow.Author.Tests.{le-leb, lt-leb}
 use lib.Dec.{leb}
 use lib.ListN.{length}
 use Rattle.saiga.specs.Expressions.{Expr}
-use Rattle.saiga.specs.Sheet.{Sheet, nodeCount, attributeCount, Checked, refused, accepted, checkSheet}
+use Rattle.saiga.specs.Sheet.{Sheet, nodeCount, attributeCount, Checked, refused_at-place_, accepted, checkSheet}
 use Rattle.saiga.specs.Caching.{Entry}
 use Rattle.saiga.specs.Store.{checkStore}
 use Rattle.saiga.specs.Ask.{Lent, lent, Call, _then-check_, checkBudget, checkQuestion, AcceptedCall, checkCall}
@@ -34,15 +34,15 @@ other e = absurd (omega arith)
 
 -- ---- What a verdict says of the checks
 
-pub verdict-refused : (C : Checked AcceptedCall) {number place : ℕ} → verdictOf C ≡ Refused number place → C ≡ refused number place
+pub verdict-refused : (C : Checked AcceptedCall) {number place : ℕ} → verdictOf C ≡ Refused number place → C ≡ refused number at-place place
 unfolding verdictOf
-verdict-refused (refused n p) e = cc
+verdict-refused (refused n at-place p) e = cc
 verdict-refused (accepted c) e = other cc
 
 pub verdict-accepted : (C : Checked AcceptedCall) {attributes nodes : ℕ} → verdictOf C ≡ Accepted attributes nodes
     → (c : AcceptedCall) × (C ≡ accepted c) × (attributeCount (c .sheet) ≡ attributes) × (nodeCount (c .sheet) ≡ nodes)
 unfolding verdictOf
-verdict-accepted (refused n p) e = other cc
+verdict-accepted (refused n at-place p) e = other cc
 verdict-accepted (accepted c) e = (c, refl, cc, cc)
 
 -- ---- The budget and the question
@@ -55,25 +55,25 @@ pub budget-permits : (s : Sheet) (c : Call) → c .budget ≤ 1000000 → fromBu
 unfolding checkBudget _then-check_
 budget-permits s c h = rw (le-leb (c .budget) 1000000 h)
 
-budget-place : (budget : ℕ) {number place : ℕ} → checkBudget budget ≡ refused number place → place ≡ 0
+budget-place : (budget : ℕ) {number place : ℕ} → checkBudget budget ≡ refused number at-place place → place ≡ 0
 unfolding checkBudget
 budget-place budget {number} {place} = go (leb budget 1000000)
   where
-    go : (b : Bool) → _≡_ {A = Checked (Unit {0})} (cond b (accepted tt) (refused 11 0)) (refused number place) → place ≡ 0
+    go : (b : Bool) → _≡_ {A = Checked (Unit {0})} (cond b (accepted tt) (refused 11 at-place 0)) (refused number at-place place) → place ≡ 0
     go true e = other cc
     go false e = cc
 
 module _ {types : List ℕ} {attributes nodes : ℕ} (c : Call) {r : QuestionCheck}
     (checked : (s : Sheet) → SheetOf types attributes nodes s → r ≡ questionOf (s .attributes) (fromBudget s c))
     (s : Sheet) (of : SheetOf types attributes nodes s) where
-  pub asked-refused : {number : ℕ} → r ≡ for-question.Refused number → fromBudget s c ≡ refused number 0
+  pub asked-refused : {number : ℕ} → r ≡ for-question.Refused number → fromBudget s c ≡ refused number at-place 0
   unfolding _then-check_ questionOf
   asked-refused {number} h = go (checkBudget (c .budget)) (λ n p. budget-place (c .budget)) (sym h ∙ checked s of)
     where
-      go : (B : Checked (Unit {0})) → ((n p : ℕ) → B ≡ refused n p → p ≡ 0)
+      go : (B : Checked (Unit {0})) → ((n p : ℕ) → B ≡ refused n at-place p → p ≡ 0)
           → for-question.Refused number ≡ questionOf (s .attributes) (B then-check λ _. checkQuestion s (c .question))
-          → (B then-check λ _. checkQuestion s (c .question)) ≡ refused number 0
-      go (refused n p) at e = let zero-place = at n p refl in cc
+          → (B then-check λ _. checkQuestion s (c .question)) ≡ refused number at-place 0
+      go (refused n at-place p) at e = let zero-place = at n p refl in cc
       go (accepted _) at e = question-refused s (c .question) (sym e)
 
   pub asked-accepted : {code : ℕ} → r ≡ for-question.Accepted code → (e : Expr) × (fromBudget s c ≡ accepted e)
@@ -81,7 +81,7 @@ module _ {types : List ℕ} {attributes nodes : ℕ} (c : Call) {r : QuestionChe
   asked-accepted {code} h = go (fromBudget s c) (sym h ∙ checked s of)
     where
       go : (C : Checked Expr) → for-question.Accepted code ≡ questionOf (s .attributes) C → (e : Expr) × (C ≡ accepted e)
-      go (refused n p) e = other cc
+      go (refused n at-place p) e = other cc
       go (accepted x) e = (x, refl)
 
 -- ---- The chain, from its last links
@@ -92,7 +92,7 @@ withQuestion s entries C = C then-check λ e. accepted record { sheet = s; entri
 
 then-assoc : {A B D : Type 0} (C : Checked A) (f : A → Checked B) (g : B → Checked D) → (C then-check λ x. f x then-check g) ≡ ((C then-check f) then-check g)
 unfolding _then-check_
-then-assoc (refused number place) f g = refl
+then-assoc (refused number at-place place) f g = refl
 then-assoc (accepted x) f g = refl
 
 pub from-store : (s : Sheet) (m : Lent) (c : Call) {entries : List Entry} → checkStore s (m .store) (m .kept) ≡ accepted entries
@@ -106,8 +106,8 @@ pub from-sheet : (sheet : List ℕ) (m : Lent) (c : Call) {s : Sheet} → checkS
 unfolding checkCall _then-check_
 from-sheet sheet m c accepts = rw accepts
 
-pub refused-by-sheet : (sheet : List ℕ) (m : Lent) (c : Call) {number place : ℕ} → checkSheet sheet ≡ refused number place
-    → checkCall sheet m c ≡ refused number place
+pub refused-by-sheet : (sheet : List ℕ) (m : Lent) (c : Call) {number place : ℕ} → checkSheet sheet ≡ refused number at-place place
+    → checkCall sheet m c ≡ refused number at-place place
 unfolding checkCall _then-check_
 refused-by-sheet sheet m c refuses = rw refuses
 
@@ -130,7 +130,7 @@ module _ {types : List ℕ} {attributes nodes : ℕ} {store : List ℕ} {kept : 
     where
       go : (s : Sheet) (C : Checked (List Entry)) → r ≡ storeCheckOf C
           → Refused number place ≡ verdictOf (C then-check λ entries. checkBudget (c .budget) then-check λ _. checkQuestion s (c .question) then-check λ e. accepted record { sheet = s; entries = entries; question = e })
-      go s (refused n p) e = cc
+      go s (refused n at-place p) e = cc
       go s (accepted entries) e = other cc
 
   -- the verdict on a store that passes is the question's
@@ -141,7 +141,7 @@ module _ {types : List ℕ} {attributes nodes : ℕ} {store : List ℕ} {kept : 
     entries-of s of = go (checkStore s store kept) (sym passes ∙ answer-is s of)
       where
         go : (C : Checked (List Entry)) → for-store.Accepted ≡ storeCheckOf C → (entries : List Entry) × (C ≡ accepted entries)
-        go (refused n p) e = other cc
+        go (refused n at-place p) e = other cc
         go (accepted entries) e = (entries, refl)
 
     pub question-stops : {number : ℕ} → q ≡ for-question.Refused number
@@ -193,7 +193,7 @@ module _ {sheet index : List ℕ} {attributes nodes : ℕ} (p : PreparedSheet sh
       answer = sym is ∙ checked .answer (p .of) (sheet-of .attributes-are) (p .nodes-are)
 
       go : (C : Checked (List Entry)) → for-store.Accepted ≡ storeCheckOf C → (entries : List Entry) × (C ≡ accepted entries)
-      go (refused n q) e = other cc
+      go (refused n at-place q) e = other cc
       go (accepted entries) e = (entries, refl)
 
 module _ {sheet index : List ℕ} {r : SheetCheck} (checked : Checks sheet r index) where
@@ -202,15 +202,15 @@ module _ {sheet index : List ℕ} {r : SheetCheck} (checked : Checks sheet r ind
   sheet-prepared {attributes} {nodes} is = go (checkSheet sheet) refl (checked .checked)
     where
       go : (C : Checked Sheet) → checkSheet sheet ≡ C → r ≡ checkOf C → PreparedSheet sheet index attributes nodes
-      go (refused n p) c e = other cc
+      go (refused n at-place p) c e = other cc
       go (accepted s) c e = record { of = s; accepts = c; index-of = checked .indexes s c; attributes-are = cc; nodes-are = cc }
 
-  pub sheet-refused : {number place : ℕ} → r ≡ for-sheet.Refused number place → checkSheet sheet ≡ refused number place
+  pub sheet-refused : {number place : ℕ} → r ≡ for-sheet.Refused number place → checkSheet sheet ≡ refused number at-place place
   unfolding checkOf
   sheet-refused {number} {place} is = go (checkSheet sheet) (checked .checked)
     where
-      go : (C : Checked Sheet) → r ≡ checkOf C → C ≡ refused number place
-      go (refused n p) e = let same : for-sheet.Refused n p ≡ for-sheet.Refused number place = sym e ∙ is in cc
+      go : (C : Checked Sheet) → r ≡ checkOf C → C ≡ refused number at-place place
+      go (refused n at-place p) e = let same : for-sheet.Refused n p ≡ for-sheet.Refused number place = sym e ∙ is in cc
       go (accepted s) e = other cc
 
   module _ (m : Lent) (c : Call) {links : List ℕ} where

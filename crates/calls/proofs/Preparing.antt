@@ -5,7 +5,7 @@ use Prim.Native.Nat.{ℕ}
 use native.Mathlib.Omega.{arith}
 use lib.ListN.{length}
 use Rattle.saiga.specs.Expressions.{Expr}
-use Rattle.saiga.specs.Sheet.{Sheet, Checked, refused, accepted, checkSheet}
+use Rattle.saiga.specs.Sheet.{Sheet, Checked, refused_at-place_, accepted, checkSheet}
 use Rattle.saiga.specs.Caching.{Entry}
 use Rattle.saiga.specs.Store.{checkStore}
 use Rattle.saiga.specs.Ask.{Lent, lent, Call, asking, refusal, _then-check_, AcceptedCall, checkCall, ask}
@@ -27,7 +27,7 @@ use Rattle.calls.specs.Askable.{Askable, RunScratch}
 -- ---- A refusal
 
 -- the answer of a refusal is the same whatever the store's bytes are, and leaves them
-pub refuses : (sheet : List ℕ) (m : Lent) (c : Call) {number place : ℕ} (r : Answer) → checkCall sheet m c ≡ refused number place
+pub refuses : (sheet : List ℕ) (m : Lent) (c : Call) {number place : ℕ} (r : Answer) → checkCall sheet m c ≡ refused number at-place place
     → answerOf r ≡ refusal (lent [] (m .kept)) number place .answer → (answerOf r ≡ ask sheet m c .answer) × (m .store ≡ ask sheet m c .store)
 unfolding refusal
 refuses sheet m c r stops answer =
@@ -53,7 +53,7 @@ module _ {checked : Checked AcceptedCall} {frames forms : List ℕ} where
 
 module _ {sheet index question store links : List ℕ} {kept budget : ℕ} {r : Verdict}
     (checked : CallChecked sheet (lent store kept) (asking question budget) index links r) where
-  pub checked-refused : {number place : ℕ} → r ≡ Refused number place → checkCall sheet (lent store kept) (asking question budget) ≡ refused number place
+  pub checked-refused : {number place : ℕ} → r ≡ Refused number place → checkCall sheet (lent store kept) (asking question budget) ≡ refused number at-place place
   checked-refused is = verdict-refused (checkCall sheet (lent store kept) (asking question budget)) (sym (checked .answer) ∙ is)
 
   pub checked-accepts : {attributes nodes : ℕ} → r ≡ Accepted attributes nodes → (c : AcceptedCall) × (checkCall sheet (lent store kept) (asking question budget) ≡ accepted c)
@@ -99,7 +99,7 @@ module _ {sheet index : List ℕ} {attributes nodes : ℕ} (p : PreparedSheet sh
 
   module _ {r : QuestionCheck}
       (checked : (s : Sheet) → SheetOf sheet attributes nodes s → r ≡ questionOf (s .attributes) (fromBudget s (asking question budget))) where
-    pub question-refused : {number : ℕ} → r ≡ for-question.Refused number → checkCall sheet (lent store kept) (asking question budget) ≡ refused number 0
+    pub question-refused : {number : ℕ} → r ≡ for-question.Refused number → checkCall sheet (lent store kept) (asking question budget) ≡ refused number at-place 0
     unfolding _then-check_
     question-refused is = chain ∙ rw (asked-refused (asking question budget) checked (p .of) (sheet-of p) is)
 

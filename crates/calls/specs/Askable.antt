@@ -4,7 +4,7 @@ use mathlib.Core.List.{List}
 use mathlib.Core.Path.{_≡_}
 use Prim.Native.Nat.{ℕ}
 use lib.ListN.{length}
-use Rattle.saiga.specs.Sheet.{attributeCount, Checked, refused, accepted}
+use Rattle.saiga.specs.Sheet.{attributeCount, Checked, refused_at-place_, accepted}
 use Rattle.saiga.specs.Ask.{lent, asking, AcceptedCall, checkCall}
 use Rattle.sheets.specs.Scan.{Indexed}
 use Rattle.stores.specs.Keys.{Linked}
@@ -24,4 +24,4 @@ pub record Askable (sheet index : List ℕ) (attributes : ℕ) (question store l
 pub record RunScratch (checked : Checked AcceptedCall) (frames forms frames′ forms′ : List ℕ) : Type 0 where
   pub frames-length : length frames′ ≡ 16640
   pub forms-length : length forms′ ≡ 256
-  pub as-lent : (number place : ℕ) → checked ≡ refused number place → (frames′ ≡ frames) × (forms′ ≡ forms)
+  pub as-lent : (number place : ℕ) → checked ≡ refused number at-place place → (frames′ ≡ frames) × (forms′ ≡ forms)

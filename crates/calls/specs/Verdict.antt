@@ -4,7 +4,7 @@ use mathlib.Core.Path.{_≡_}
 use Prim.Native.Nat.{ℕ}
 use lib.ListN.{length}
 use Rattle.saiga.specs.Expressions.{Expr}
-use Rattle.saiga.specs.Sheet.{Sheet, nodeCount, attributeCount, Checked, refused, accepted, checkSheet}
+use Rattle.saiga.specs.Sheet.{Sheet, nodeCount, attributeCount, Checked, refused_at-place_, accepted, checkSheet}
 use Rattle.saiga.specs.Caching.{Entry}
 use Rattle.saiga.specs.Store.{checkStore}
 use Rattle.saiga.specs.Ask.{Lent, Call, _then-check_, checkBudget, checkQuestion, AcceptedCall, checkCall}
@@ -16,7 +16,7 @@ use Rattle.calls.specs.declared.checks.Verdict.the-variants.{Refused, Ac
 
 -- the first stop with its place, or the numbers of attributes and nodes of the accepted sheet
 unfoldable pub verdictOf : Checked AcceptedCall → Verdict
-verdictOf (refused number place) = Refused number place
+verdictOf (refused number at-place place) = Refused number place
 verdictOf (accepted c) = Accepted (attributeCount (c .sheet)) (nodeCount (c .sheet))
 
 -- ---- The last links of the chain `checkCall`, each for every sheet of these attributes and nodes

@@ -7,7 +7,7 @@ use lib.Dec.{eqb}
 use lib.ListN.{length, getD}
 use Rattle.saiga.specs.Values.{baseOf, ofWord, toWord}
 use Rattle.saiga.specs.declared.Value.{Value}
-use Rattle.saiga.specs.Sheet.{Sheet, emptySheet, Checked, refused, accepted, checkSheet}
+use Rattle.saiga.specs.Sheet.{Sheet, emptySheet, Checked, refused_at-place_, accepted, checkSheet}
 use Rattle.saiga.specs.Terms.{Occurrence}
 use Rattle.saiga.specs.Caching.{Entry}
 use Rattle.saiga.specs.Store.{checkStore}
@@ -18,7 +18,7 @@ use Rattle.engine.specs.declared.Registers.{Registers}
 
 -- the sheet that accepted bytes are
 unfoldable pub sheetIn : Checked Sheet → Sheet
-sheetIn (refused number place) = emptySheet
+sheetIn (refused number at-place place) = emptySheet
 sheetIn (accepted s) = s
 
 abbrev pub sheetOf : List ℕ → Sheet
@@ -26,7 +26,7 @@ sheetOf bytes = sheetIn (checkSheet bytes)
 
 -- the entries of a store that passes
 unfoldable pub entriesOf : Checked (List Entry) → List Entry
-entriesOf (refused number place) = []
+entriesOf (refused number at-place place) = []
 entriesOf (accepted entries) = entries
 
 -- ---- Frames and forms

@@ -9,7 +9,7 @@ use lib.ListN.{length}
 use Rattle.saiga.specs.Values.{Base, unitT, baseCode, baseOf, Ty, base, _⇒_}
 use Rattle.saiga.specs.Expressions.{Expr, Whole, no-expression, expression, readWhole}
 use Rattle.saiga.specs.Types.{infer}
-use Rattle.saiga.specs.Sheet.{Sheet, nodeCount, refused, accepted, questionScope}
+use Rattle.saiga.specs.Sheet.{Sheet, nodeCount, refused_at-place_, accepted, questionScope}
 use Rattle.saiga.specs.Ask.{ofBaseType, checkType, checkQuestion}
 use Rattle.expressions.specs.declared.Formed.{Formed}
 use Rattle.expressions.specs.declared.Formed.the-variants.{NoExpression, Expression}
@@ -85,16 +85,16 @@ module _ (types : List ℕ) (attributes nodes : ℕ) (question : List ℕ) {r : 
 
 -- a refused question stops with this number at place 0
 pub question-refused : (s : Sheet) (question : List ℕ) {number : ℕ} → questionOf (s .attributes) (checkQuestion s question) ≡ Refused number
-    → checkQuestion s question ≡ refused number 0
+    → checkQuestion s question ≡ refused number at-place 0
 unfolding checkQuestion checkType ofBaseType questionOf
 question-refused s question {number} = go (readWhole (questionScope s) question)
   where
-    by-type : (e : Expr) (T : Option Ty) → questionOf (s .attributes) (ofBaseType T e) ≡ Refused number → ofBaseType T e ≡ refused number 0
+    by-type : (e : Expr) (T : Option Ty) → questionOf (s .attributes) (ofBaseType T e) ≡ Refused number → ofBaseType T e ≡ refused number at-place 0
     by-type e none h = cc
     by-type e (some (base B)) h = cc
     by-type e (some (B ⇒ T)) h = cc
 
-    go : (W : Whole) → questionOf (s .attributes) (checkType s W) ≡ Refused number → checkType s W ≡ refused number 0
+    go : (W : Whole) → questionOf (s .attributes) (checkType s W) ≡ Refused number → checkType s W ≡ refused number at-place 0
     go no-expression h = cc
     go (expression e) h = by-type e (infer (s .attributes) unitT e) h
 

@@ -7,7 +7,7 @@ use lib.Dec.{eqb}
 use Rattle.saiga.specs.Values.{Base, unitT, nodeT, baseCode, Ty, base, _⇒_}
 use Rattle.saiga.specs.Expressions.{Expr, Head, Scope, Reading, malformed, reads, readAfter, readExpr, Whole, no-expression, expression}
 use Rattle.saiga.specs.Types.{Attribute, given, infer}
-use Rattle.saiga.specs.Sheet.{Checked, refused, accepted}
+use Rattle.saiga.specs.Sheet.{Checked, refused_at-place_, accepted}
 use Rattle.expressions.specs.declared.Form.{Form}
 use Rattle.expressions.specs.declared.Form.the-variants.{Malformed, Reads}
 use Rattle.expressions.specs.declared.Formed.{Formed}
@@ -60,5 +60,5 @@ inferredCode (some (B ⇒ T)) = 0
 
 -- The stop's number, whose place is 0 (Questions.antt), or the code of the question's type.
 unfoldable pub questionOf : List Attribute → Checked Expr → QuestionCheck
-questionOf sig (refused number place) = Refused number
+questionOf sig (refused number at-place place) = Refused number
 questionOf sig (accepted e) = Accepted (inferredCode (infer sig unitT e))

@@ -14,7 +14,7 @@ use borrow.Author.Tests.{leb-true, ltb-true, eqb-true}
 use Rattle.saiga.specs.Values.{base, Value, ofBytes, isWord}
 use Rattle.saiga.specs.Expressions.{Expr, Whole, no-expression, expression, readWhole}
 use Rattle.saiga.specs.Types.{attributeAt}
-use Rattle.saiga.specs.Sheet.{Figure, Rule, Sheet, emptySheet, nodeCount, attributeCount, figureFor, ruleFor, ruleScope, Definition, undefined, figure, piece-of, ruled, figured, definition, wholeExpr, definitionExpr, context, Command, attribute-command, node-command, figure-command, rule-command, end-command, no-command, commandOf, Read, stops, ends, goes-on, require, readAttribute, readNode, readFigure, requireRule, readRule, readEnd, readCommand, readNext, Checked, refused, accepted, isDefined, gapAt, gapFrom, complete, readCommands, checkSheet}
+use Rattle.saiga.specs.Sheet.{Figure, Rule, Sheet, emptySheet, nodeCount, attributeCount, figureFor, ruleFor, ruleScope, Definition, undefined, figure, piece-of, ruled, figured, definition, wholeExpr, definitionExpr, context, Command, attribute-command, node-command, figure-command, rule-command, end-command, no-command, commandOf, Read, stops_at-offset_, ends, goes-on, require, readAttribute, readNode, readFigure, requireRule, readRule, readEnd, readCommand, readNext, Checked, refused_at-place_, accepted, isDefined, gapAt, gapFrom, complete, readCommands, checkSheet}
 use Rattle.saiga.specs.Sound.{ExprIn, literal∈, All, all-none, all-cons, ContextIn}
 use Rattle.saiga.proofs.FourBytes.{word-in}
 use Rattle.saiga.proofs.Inference.{hasType-sound}
@@ -56,9 +56,9 @@ StopNumber number = (1 ≤ number) × (number ≤ 8)
 -- What reading one command comes to, where `room` bytes are left: a stop of the sheet's; or a width that is not zero and fits, and
 -- a sheet of which the same holds.
 abbrev Fit : Sheet → ℕ → ℕ → Read → Type 0
-Fit s part room (stops number offset) = StopNumber number
+Fit s part room (stops number at-offset offset) = StopNumber number
 Fit s part room ends = Unit {0}
-Fit s part room (goes-on width part′ s′) = (1 ≤ width) × (width ≤ room) × (SoFar s part → SoFar s′ part′)
+Fit s part room (goes-on next) = (1 ≤ next .width) × (next .width ≤ room) × (SoFar s part → SoFar (next .sheet) (next .part))
 
 -- What follows a test may rest on it.
 module _ (s : Sheet) (part room : ℕ) where
@@ -193,10 +193,10 @@ commands-fuel (suc k) (suc j) s part at l p q = go (commands-fuel k j) (readNext
   where
     go : ((s′ : Sheet) (part′ at′ : ℕ) (l′ : List ℕ) → length l′ < k → length l′ < j → readCommands k s′ part′ at′ l′ ≡ readCommands j s′ part′ at′ l′)
         → (r : Read) → readNext s part l ≡ r → Fit s part (length l) r → readCommands (suc k) s part at l ≡ readCommands (suc j) s part at l
-    go ih (stops number offset) e f = rw (e, readCommands)
+    go ih (stops number at-offset offset) e f = rw (e, readCommands)
     go ih ends e f = rw (e, readCommands)
-    go ih (goes-on width part′ s′) e f =
-        rw (e, readCommands) (ih s′ part′ (at + width) (drop width l) (rw length-drop (omega arith)) (rw length-drop (omega arith)))
+    go ih (goes-on next) e f =
+        rw (e, readCommands) (ih (next .sheet) (next .part) (at + next .width) (drop (next .width) l) (rw length-drop (omega arith)) (rw length-drop (omega arith)))
 
 -- ---- The definition in force
 
@@ -258,7 +258,7 @@ node-complete s (suc k) n m e p q = go (gapAt s (attributeCount s) n 0) refl (eq
 -- ---- The verdict
 
 abbrev Verdict : Checked Sheet → Type 0
-Verdict (refused number place) = StopNumber number
+Verdict (refused number at-place place) = StopNumber number
 Verdict (accepted s) =
     AcceptedSheet s × ((k a : ℕ) → Found (λ p. Reads s (piece-of p)) (ruleFor (s .rules) k a))
     × ((n a : ℕ) → n < nodeCount s → a < attributeCount s → isDefined (definition s n a) ≡ true)
@@ -292,15 +292,16 @@ commands-verdict (suc k) s part at l h = go (commands-verdict k) (readNext s par
   where
     go : ((s′ : Sheet) (part′ at′ : ℕ) (l′ : List ℕ) → SoFar s′ part′ → Verdict (readCommands k s′ part′ at′ l′))
         → (r : Read) → readNext s part l ≡ r → Fit s part (length l) r → Verdict (readCommands (suc k) s part at l)
-    go ih (stops number offset) e f = rw (e, readCommands) f
+    go ih (stops number at-offset offset) e f = rw (e, readCommands) f
     go ih ends e f = rw (e, readCommands) (complete-verdict s part _ refl h)
-    go ih (goes-on width part′ s′) e f = rw (e, readCommands) (ih s′ part′ (at + width) (drop width l) (f .2 h))
+    go ih (goes-on next) e f =
+        rw (e, readCommands) (ih (next .sheet) (next .part) (at + next .width) (drop (next .width) l) (f .2 h))
 
 sheet-verdict : (bytes : List ℕ) → Verdict (checkSheet bytes)
 unfolding checkSheet
 sheet-verdict bytes = go (leb (length bytes) 65536)
   where
-    go : (b : Bool) → Verdict (cond b (readCommands (suc (length bytes)) emptySheet 0 0 bytes) (refused 1 0))
+    go : (b : Bool) → Verdict (cond b (readCommands (suc (length bytes)) emptySheet 0 0 bytes) (refused 1 at-place 0))
     go true = commands-verdict (suc (length bytes)) emptySheet 0 0 bytes
         (record { nodes-bound = omega arith; attributes-bound = omega arith; no-figures = λ p. refl; no-rules = λ p. refl; figures-give = all-none; rules-give = all-none; rules-read = all-none })
     go false = omega arith
@@ -318,5 +319,5 @@ pub pair-defined : (bytes : List ℕ) (s : Sheet) → checkSheet bytes ≡ accep
     → isDefined (definition s n a) ≡ true
 pair-defined bytes s e = subst Verdict e (sheet-verdict bytes) .2
 
-pub refused-numbers : (bytes : List ℕ) (number place : ℕ) → checkSheet bytes ≡ refused number place → (1 ≤ number) × (number ≤ 8)
+pub refused-numbers : (bytes : List ℕ) (number place : ℕ) → checkSheet bytes ≡ refused number at-place place → (1 ≤ number) × (number ≤ 8)
 refused-numbers bytes number place e = subst Verdict e (sheet-verdict bytes)

@@ -12,7 +12,7 @@ use lib.ListN.{length}
 use Rattle.saiga.specs.Values.{Base, Ty, base, _⇒_, unit, unitT}
 use Rattle.saiga.specs.Expressions.{Expr, Whole, no-expression, expression, readWhole}
 use Rattle.saiga.specs.Types.{infer}
-use Rattle.saiga.specs.Sheet.{Sheet, Checked, refused, accepted, checkSheet, context, questionScope, nodeCount}
+use Rattle.saiga.specs.Sheet.{Sheet, Checked, refused_at-place_, accepted, checkSheet, context, questionScope, nodeCount}
 use Rattle.saiga.specs.Plain.{plainAt}
 use Rattle.saiga.specs.Caching.{Entry, kept, spent, by, Ended, State}
 use Rattle.saiga.specs.Store.{capacity, checkStore, leftStore}
@@ -71,14 +71,14 @@ pub record Passed (sheet : List ℕ) (m : Lent) (c : Call) (a : AcceptedCall) : 
 then-accepted : {A B : Type 0} (C : Checked A) (next : A → Checked B) {y : B} → (C then-check next) ≡ accepted y
     → (x : A) × (C ≡ accepted x) × (next x ≡ accepted y)
 unfolding _then-check_
-then-accepted (refused number place) next e = absurd (let z : _≡_ {A = ℕ} 0 1 = cc in omega arith)
+then-accepted (refused number at-place place) next e = absurd (let z : _≡_ {A = ℕ} 0 1 = cc in omega arith)
 then-accepted (accepted x) next e = (x, refl, e)
 
 pub budget-permitted : (budget : ℕ) {u : Unit {0}} → checkBudget budget ≡ accepted u → budget ≤ 1000000
 unfolding checkBudget
 budget-permitted budget = go (leb budget 1000000) refl
   where
-    go : (b : Bool) → leb budget 1000000 ≡ b → {u : Unit {0}} → Bool.cond b (accepted tt) (refused 11 0) ≡ accepted u → budget ≤ 1000000
+    go : (b : Bool) → leb budget 1000000 ≡ b → {u : Unit {0}} → Bool.cond b (accepted tt) (refused 11 at-place 0) ≡ accepted u → budget ≤ 1000000
     go true h e = leb-true budget 1000000 h
     go false h e = absurd (let z : _≡_ {A = ℕ} 0 1 = cc in omega arith)
 
@@ -102,7 +102,7 @@ unfolding ask answered
 ask-runs sheet m c e = rw e
 
 -- A refused one is a refusal.
-pub ask-refuses : (sheet : List ℕ) (m : Lent) (c : Call) {number place : ℕ} → checkCall sheet m c ≡ refused number place
+pub ask-refuses : (sheet : List ℕ) (m : Lent) (c : Call) {number place : ℕ} → checkCall sheet m c ≡ refused number at-place place
     → ask sheet m c ≡ refusal m number place
 unfolding ask answered
 ask-refuses sheet m c e = rw e
@@ -122,12 +122,12 @@ module _ (sheet : List ℕ) (s : Sheet) (ok : checkSheet sheet ≡ accepted s) w
   call-over m entries q budget pass over = rw (ok, pass, lt-leb budget 1000000 over)
 
   pub call-malformed : (m : Lent) (entries : List Entry) (q : List ℕ) (budget number place : ℕ) → checkStore s (m .store) (m .kept) ≡ accepted entries
-      → budget ≤ 1000000 → checkQuestion s q ≡ refused number place
+      → budget ≤ 1000000 → checkQuestion s q ≡ refused number at-place place
       → ask sheet m (asking q budget) ≡ refusal m number place
   unfolding ask checkCall answered checkBudget _then-check_
   call-malformed m entries q budget number place pass permitted form = rw (ok, pass, le-leb budget 1000000 permitted, form)
 
-  call-refused : (m : Lent) (q : List ℕ) (budget number place : ℕ) → checkStore s (m .store) (m .kept) ≡ refused number place
+  call-refused : (m : Lent) (q : List ℕ) (budget number place : ℕ) → checkStore s (m .store) (m .kept) ≡ refused number at-place place
       → ask sheet m (asking q budget) ≡ refusal m number place
   unfolding ask checkCall answered checkBudget _then-check_
   call-refused m q budget number place pass = rw (ok, pass)
@@ -148,7 +148,7 @@ module _ (sheet : List ℕ) (s : Sheet) (ok : checkSheet sheet ≡ accepted s) w
       where
         asked-of : (entries : List Entry) → checkStore s (m .store) (m .kept) ≡ accepted entries → (c : Checked Expr) → checkQuestion s q ≡ c
             → ask sheet m (asking q b′) ≡ ask sheet m (asking q b)
-        asked-of entries pass (refused number place) form =
+        asked-of entries pass (refused number at-place place) form =
             call-malformed m entries q b′ number place pass permitted form ∙ sym (call-malformed m entries q b number place pass (omega (arith, more, permitted)) form)
         asked-of entries pass (accepted e) form =
             let small = call-answered m entries q b e pass (omega (arith, more, permitted)) form in
@@ -158,7 +158,7 @@ module _ (sheet : List ℕ) (s : Sheet) (ok : checkSheet sheet ≡ accepted s) w
 
         stored : (c : Checked (List Entry)) → checkStore s (m .store) (m .kept) ≡ c
             → ask sheet m (asking q b′) ≡ ask sheet m (asking q b)
-        stored (refused number place) pass = call-refused m q b′ number place pass ∙ sym (call-refused m q b number place pass)
+        stored (refused number at-place place) pass = call-refused m q b′ number place pass ∙ sym (call-refused m q b number place pass)
         stored (accepted entries) pass = asked-of entries pass (checkQuestion s q) refl
 
   -- ---- Types
@@ -224,7 +224,7 @@ module _ (sheet : List ℕ) (s : Sheet) (ok : checkSheet sheet ≡ accepted s) w
         as-lent number place e = rw e (unfold refusal leaves in lent)
 
         formed : c .budget ≤ 1000000 → (d : Checked Expr) → checkQuestion s (c .question) ≡ d → P (leaves (ask sheet m c))
-        formed permitted (refused number place) form =
+        formed permitted (refused number at-place place) form =
             as-lent number place (call-malformed m entries (c .question) (c .budget) number place pass permitted form)
         formed permitted (accepted e) form = answered e permitted form
 

@@ -11,12 +11,12 @@ use lib.Dec.{leb, leb·zero}
 use lib.ListN.{length}
 use Rattle.saiga.specs.Values.{unit}
 use Rattle.saiga.specs.Expressions.{Expr}
-use Rattle.saiga.specs.Sheet.{Sheet, Checked, refused, accepted, checkSheet, context}
+use Rattle.saiga.specs.Sheet.{Sheet, Checked, refused_at-place_, accepted, checkSheet, context}
 use Rattle.saiga.specs.Caching.{Entry, kept}
 use Rattle.saiga.specs.Store.{capacity, checkStore, readEntries}
 use Rattle.saiga.specs.Ask.{Lent, Call, asking, refusal, checkQuestion, asked, endedAnswer, outcome, runQuestion, ask}
 use Rattle.saiga.specs.Calls.{leaves, afterCalls, answers}
-use Rattle.saiga.specs.Demand3.{PlainEnding, PlainEnds, Brings, HasEnding, First, at-place, OfSheet, Demand3}
+use Rattle.saiga.specs.Demand3.{PlainEnding, PlainEnds, Brings, HasEnding, First, outcome-at, OfSheet, Demand3}
 use Rattle.saiga.proofs.Keeping.{right-run}
 use Rattle.saiga.proofs.Larger.{Nested, alike, larger, Brings as RunBrings}
 use Rattle.saiga.proofs.Erasure.{Right, faithful-put}
@@ -111,7 +111,7 @@ module _ (sheet : List ℕ) (s : Sheet) (ok : checkSheet sheet ≡ accepted s) w
         as-lent number place e e′ = rw (e, e′) (unfold refusal leaves in p)
 
         formed : c .budget ≤ 1000000 → (d : Checked Expr) → checkQuestion s (c .question) ≡ d → Paired (leaves (ask sheet m c)) (leaves (ask sheet m′ c))
-        formed permitted (refused number place) form =
+        formed permitted (refused number at-place place) form =
             as-lent number place
             (call-malformed sheet s ok m (p .small) (c .question) (c .budget) number place (p .small-reached .passes) permitted form)
             (call-malformed sheet s ok m′ (p .large) (c .question) (c .budget) number place (p .large-reached .passes) permitted form)
@@ -153,7 +153,7 @@ module _ (sheet : List ℕ) (s : Sheet) (ok : checkSheet sheet ≡ accepted s) w
       go false p = absurd (refute (ap (λ o. o .answer .number) (call-over sheet s ok m entries q budget pass (leb-false budget 1000000 p))) h)
 
   ending-at : (size : ℕ) (first : Lent) → First size first → (before : List Call) (q : List ℕ) (e : Expr) → checkQuestion s q ≡ accepted e → (budget : ℕ)
-      → let r = at-place sheet first before q budget .answer in
+      → let r = outcome-at sheet first before q budget .answer in
       HasEnding r → (ending : PlainEnding) × (n : ℕ) × PlainEnds s e ending n × Brings r ending × (r .steps ≤ n)
   ending-at size first f before q e form budget h =
       let (entries, r) = reached size first ([], reached-first size first f) before in

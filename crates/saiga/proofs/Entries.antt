@@ -13,7 +13,7 @@ use borrow.Author.Tests.{ltb-true, leb-true, leb-false, eqb-true, lt-ltb, le-leb
 use Rattle.saiga.specs.Values.{Base, Value, ofBytes, toBytes, isWord, ofWord, toWord}
 use Rattle.saiga.specs.Expressions.{Expr}
 use Rattle.saiga.specs.Types.{attributeAt}
-use Rattle.saiga.specs.Sheet.{Sheet, nodeCount, attributeCount, refused, accepted}
+use Rattle.saiga.specs.Sheet.{Sheet, nodeCount, attributeCount, refused_at-place_, accepted}
 use Rattle.saiga.specs.Caching.{Entry, kept, isKept, write, State, run}
 use Rattle.saiga.specs.Store.{entryBytes, entryOf, isEntry, readEntries, capacity, checkStore, entriesBytes, leftStore}
 use Rattle.saiga.specs.Sound.{IsA, EntryIn, All, all-none, all-cons}
@@ -112,7 +112,7 @@ module _ (s : Sheet) where
   read-one k before l e = rw (e, readEntries)
 
   read-none : (k : ℕ) (before : List Entry) (l : List ℕ) → isEntry s before (take 12 l) ≡ false
-      → readEntries s (suc k) before l ≡ refused 10 (length before)
+      → readEntries s (suc k) before l ≡ refused 10 at-place (length before)
   unfolding readEntries
   read-none k before l e = rw (e, readEntries)
 
@@ -210,7 +210,7 @@ unfolding checkStore
 store-in s store k es q = go (eqb (length store % 12) 0 && leb (length store) 12288 && leb k (capacity store)) refl q
   where
     go : (b : Bool) → (eqb (length store % 12) 0 && leb (length store) 12288 && leb k (capacity store)) ≡ b
-        → cond b (readEntries s k [] store) (refused 9 0) ≡ accepted es → StoreIn s store k es
+        → cond b (readEntries s k [] store) (refused 9 at-place 0) ≡ accepted es → StoreIn s store k es
     go true e q =
         let t = simp and-eq-true-iff at e in
         let r = entries-read s k [] store q in

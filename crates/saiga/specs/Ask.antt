@@ -9,7 +9,7 @@ use lib.IntN.{ℤ, pos}
 use Rattle.saiga.specs.Values.{unitT, Ty, base, _⇒_, unit, typeCode, decimal}
 use Rattle.saiga.specs.Expressions.{Expr, Whole, no-expression, expression, readWhole}
 use Rattle.saiga.specs.Types.{infer}
-use Rattle.saiga.specs.Sheet.{Sheet, Checked, refused, accepted, checkSheet, questionScope, context}
+use Rattle.saiga.specs.Sheet.{Sheet, Checked, refused_at-place_, accepted, checkSheet, questionScope, context}
 use Rattle.saiga.specs.Terms.{Term, put}
 use Rattle.saiga.specs.Caching.{Entry, Reason, null-node, spent, depth, Ending, with-value, by, Ended, run}
 use Rattle.saiga.specs.Store.{capacity, checkStore, leftStore}
@@ -56,12 +56,12 @@ refusal m number place =
 
 -- "12 question not of its form. 13 question not of base type."
 unfoldable pub ofBaseType : Option Ty → Expr → Checked Expr
-ofBaseType none e = refused 13 0
+ofBaseType none e = refused 13 at-place 0
 ofBaseType (some (base B)) e = accepted e
-ofBaseType (some (B ⇒ T)) e = refused 13 0
+ofBaseType (some (B ⇒ T)) e = refused 13 at-place 0
 
 unfoldable pub checkType : Sheet → Whole → Checked Expr
-checkType s no-expression = refused 12 0
+checkType s no-expression = refused 12 at-place 0
 checkType s (expression e) = ofBaseType (infer (s .attributes) unitT e) e
 
 unfoldable pub checkQuestion : Sheet → List ℕ → Checked Expr
@@ -97,12 +97,12 @@ runQuestion s capacity budget entries e =
 -- One check after another: the first that refuses is the call's.
 infixr 20 _then-check_
 unfoldable pub _then-check_ : {A B : Type 0} → Checked A → (A → Checked B) → Checked B
-(refused number place) then-check next = refused number place
+(refused number at-place place) then-check next = refused number at-place place
 (accepted x) then-check next = next x
 
 -- "11 budget above 1,000,000."
 unfoldable pub checkBudget : ℕ → Checked (Unit {0})
-checkBudget budget = cond (leb budget 1000000) (accepted tt) (refused 11 0)
+checkBudget budget = cond (leb budget 1000000) (accepted tt) (refused 11 at-place 0)
 
 -- A call that no check refuses: what its sheet, its kept entries and its question say.
 pub record AcceptedCall : Type 0 where
@@ -123,7 +123,7 @@ checkCall sheet m c =
 
 -- A call that is refused, or that runs.
 unfoldable pub answered : Lent → Call → Checked AcceptedCall → Outcome
-answered m c (refused number place) = refusal m number place
+answered m c (refused number at-place place) = refusal m number place
 answered m c (accepted a) = outcome m (runQuestion (a .sheet) (capacity (m .store)) (c .budget) (a .entries) (a .question))
 
 -- A question call: the sheet's bytes, what is lent, and the question with its budget.

@@ -37,16 +37,16 @@ pub record First (capacity : ℕ) (m : Lent) : Type 0 where
   pub none-kept : m .kept ≡ 0
 
 -- A place in a list of calls is what stands before it. The outcome there of a question with a budget:
-abbrev pub at-place : List ℕ → Lent → List Call → List ℕ → ℕ → Outcome
-at-place sheet first before question budget = ask sheet (afterCalls sheet first before) (asking question budget)
+abbrev pub outcome-at : List ℕ → Lent → List Call → List ℕ → ℕ → Outcome
+outcome-at sheet first before question budget = ask sheet (afterCalls sheet first before) (asking question budget)
 
 -- What is claimed of the bytes of an accepted sheet s. The list is any list of calls, with any question bytes and any budgets.
 pub record OfSheet (sheet : List ℕ) (s : Sheet) : Type 0 where
-  -- Places: the answers of a whole list are those of the calls before a place, then the one that `at-place` gives, then those of the
+  -- Places: the answers of a whole list are those of the calls before a place, then the one that `outcome-at` gives, then those of the
   -- calls after it, which begin with the store that it left.
   pub places :
       (first : Lent) (before : List Call) (question : List ℕ) (budget : ℕ) (after : List Call) →
-      let o = at-place sheet first before question budget in
+      let o = outcome-at sheet first before question budget in
       answers sheet first (before ++ asking question budget ∷ after)
       ≡ answers sheet first before ++ o .answer ∷ answers sheet (leaves o) after
   -- Complete: if plain Saiga ends with a value or on null in n steps, every permitted budget of n or more, put there, brings that
@@ -55,26 +55,26 @@ pub record OfSheet (sheet : List ℕ) (s : Sheet) : Type 0 where
       (capacity : ℕ) (first : Lent) → First capacity first → (before : List Call) (question : List ℕ) (e : Expr) →
       checkQuestion s question ≡ accepted e → (ending : PlainEnding) (n : ℕ) → PlainEnds s e ending n →
       (budget : ℕ) → n ≤ budget → budget ≤ 1000000 →
-      let r = at-place sheet first before question budget .answer in
+      let r = outcome-at sheet first before question budget .answer in
       (Brings r ending × (r .steps ≤ n)) ⊎ (r .number ≡ 16)
   -- Sound: whatever the budget, such an ending is reported only if plain Saiga comes to the same in no fewer steps.
   pub sound :
       (capacity : ℕ) (first : Lent) → First capacity first → (before : List Call) (question : List ℕ) (e : Expr) →
       checkQuestion s question ≡ accepted e → (budget : ℕ) →
-      let r = at-place sheet first before question budget .answer in
+      let r = outcome-at sheet first before question budget .answer in
       HasEnding r → (ending : PlainEnding) × (n : ℕ) × PlainEnds s e ending n × Brings r ending × (r .steps ≤ n)
   -- So never if plain Saiga runs for ever.
   pub never :
       (capacity : ℕ) (first : Lent) → First capacity first → (before : List Call) (question : List ℕ) (e : Expr) →
       checkQuestion s question ≡ accepted e → RunsForEver (context s) (asked e) → (budget : ℕ) →
-      HasEnding (at-place sheet first before question budget .answer) → ⊥
+      HasEnding (outcome-at sheet first before question budget .answer) → ⊥
   -- Larger stores: where the list brings such an ending, any larger store, given the same list and budgets, brings the same one there
   -- in no more steps.
   pub larger-stores :
       (capacity capacity′ : ℕ) → capacity ≤ capacity′ → (first first′ : Lent) → First capacity first → First capacity′ first′ →
       (before : List Call) (question : List ℕ) (e : Expr) → checkQuestion s question ≡ accepted e → (budget : ℕ) →
-      let r = at-place sheet first before question budget .answer in
-      let r′ = at-place sheet first′ before question budget .answer in
+      let r = outcome-at sheet first before question budget .answer in
+      let r′ = outcome-at sheet first′ before question budget .answer in
       HasEnding r → (r′ .number ≡ r .number) × (r′ .type ≡ r .type) × (r′ .value ≡ r .value) × (r′ .steps ≤ r .steps)
   -- Larger budgets: from any one store, right or wrong in its values, reached by a list or not, every larger permitted budget gives the
   -- same answer, all fields, and leaves the same store, every byte, unless the smaller budget's was 15.

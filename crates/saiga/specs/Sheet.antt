@@ -113,17 +113,23 @@ figure-part = 2
 abbrev pub rule-part : ℕ
 rule-part = 3
 
--- What reading one command comes to: a stop at so many bytes past the command's offset; the end; or the sheet so far, with the
--- command's width and its part.
+-- A command that was read: how many bytes it takes, its part, and the sheet so far.
+pub record Advance : Type 0 where
+  pub width : ℕ
+  pub part : ℕ
+  pub sheet : Sheet
+
+-- What reading one command comes to: a stop, by its number, at so many bytes past the command's offset; the end; or a command that was read.
+infix 20 stops_at-offset_
 pub data Read : Type 0 where
-  stops : ℕ → ℕ → Read
+  stops_at-offset_ : ℕ → ℕ → Read
   ends : Read
-  goes-on : ℕ → ℕ → Sheet → Read
+  goes-on : Advance → Read
 
 -- the stop with this number, unless the test holds
 unfoldable pub require : Bool → ℕ → Read → Read
 require true number r = r
-require false number r = stops number 0
+require false number r = stops number at-offset 0
 
 -- Each of the five below has what follows the command's byte, `l`, and makes its tests in the order of the stops. All but `readEnd` have
 -- the part reached: the end may follow any part.
@@ -133,11 +139,16 @@ readAttribute s part l =
     require (leb part attribute-part && leb 2 (length l)) 2
     (require (ltb (attributeCount s) 32) 3
     (require (ltb (getD l 0 0) 4 && ltb (getD l 1 0) 4) 4
-    (goes-on 3 attribute-part record {
-      attributes = s .attributes ++ record { result = baseOf (getD l 0 0); parameter-type = baseOf (getD l 1 0) } ∷ [];
-      kinds = s .kinds;
-      figures = s .figures;
-      rules = s .rules;
+    (goes-on record {
+      width = 3;
+      part = attribute-part;
+      sheet =
+          record {
+            attributes = s .attributes ++ record { result = baseOf (getD l 0 0); parameter-type = baseOf (getD l 1 0) } ∷ [];
+            kinds = s .kinds;
+            figures = s .figures;
+            rules = s .rules;
+          };
     })))
 
 unfoldable pub readNode : Sheet → ℕ → List ℕ → Read
@@ -145,11 +156,16 @@ readNode s part l =
     require (leb part node-part && leb 1 (length l)) 2
     (require (ltb (nodeCount s) 1024) 3
     (require (leb (getD l 0 0) 15) 4
-    (goes-on 2 node-part record {
-      attributes = s .attributes;
-      kinds = s .kinds ++ getD l 0 0 ∷ [];
-      figures = s .figures;
-      rules = s .rules;
+    (goes-on record {
+      width = 2;
+      part = node-part;
+      sheet =
+          record {
+            attributes = s .attributes;
+            kinds = s .kinds ++ getD l 0 0 ∷ [];
+            figures = s .figures;
+            rules = s .rules;
+          };
     })))
 
 abbrev pub isNone : {A : Type 0} → Option A → Bool
@@ -165,16 +181,21 @@ readFigure s part l =
     require (leb part figure-part && leb 7 (length l)) 2
     (require (ltb n (nodeCount s) && ltb a (attributeCount s) && isWord (nodeCount s) t w) 4
     (require (isNone (figureFor (s .figures) n a)) 5
-    (goes-on 8 figure-part record {
-      attributes = s .attributes;
-      kinds = s .kinds;
-      figures = record { node = n; attribute = a; value = ofWord t w } ∷ s .figures;
-      rules = s .rules;
+    (goes-on record {
+      width = 8;
+      part = figure-part;
+      sheet =
+          record {
+            attributes = s .attributes;
+            kinds = s .kinds;
+            figures = record { node = n; attribute = a; value = ofWord t w } ∷ s .figures;
+            rules = s .rules;
+          };
     })))
 
 -- stop 6 for a piece that is no expression, 7 for one that has not its attribute's type
 unfoldable pub requireRule : Sheet → ℕ → Whole → Read → Read
-requireRule s a no-expression r = stops 6 0
+requireRule s a no-expression r = stops 6 at-offset 0
 requireRule s a (expression e) r =
     let t = attributeAt (s .attributes) a in
     require (hasType (s .attributes) (t .parameter-type) (base (t .result)) e) 7 r
@@ -189,17 +210,22 @@ readRule s part l =
     (require (leb k 15 && ltb a (attributeCount s)) 4
     (require (isNone (ruleFor (s .rules) k a)) 5
     (requireRule s a (readWhole (ruleScope s) p)
-    (goes-on (5 + n) rule-part record {
-      attributes = s .attributes;
-      kinds = s .kinds;
-      figures = s .figures;
-      rules = record { kind = k; attribute = a; piece = p } ∷ s .rules;
+    (goes-on record {
+      width = 5 + n;
+      part = rule-part;
+      sheet =
+          record {
+            attributes = s .attributes;
+            kinds = s .kinds;
+            figures = s .figures;
+            rules = record { kind = k; attribute = a; piece = p } ∷ s .rules;
+          };
     }))))
 
 -- "bytes after it" are stopped at the first of them
 unfoldable pub readEnd : List ℕ → Read
 readEnd [] = ends
-readEnd (b ∷ l) = stops 2 1
+readEnd (b ∷ l) = stops 2 at-offset 1
 
 unfoldable pub readCommand : Sheet → ℕ → Command → List ℕ → Read
 readCommand s part attribute-command l = readAttribute s part l
@@ -207,17 +233,18 @@ readCommand s part node-command l = readNode s part l
 readCommand s part figure-command l = readFigure s part l
 readCommand s part rule-command l = readRule s part l
 readCommand s part end-command l = readEnd l
-readCommand s part no-command l = stops 2 0
+readCommand s part no-command l = stops 2 at-offset 0
 
 unfoldable pub readNext : Sheet → ℕ → List ℕ → Read
-readNext s part [] = stops 2 0
+readNext s part [] = stops 2 at-offset 0
 readNext s part (c ∷ l) = readCommand s part (commandOf c) l
 
 -- ---- The check
 
 -- A refusal is a stop's number and its place.
+infix 20 refused_at-place_
 pub data Checked (A : Type 0) : Type 0 where
-  refused : ℕ → ℕ → Checked A
+  refused_at-place_ : ℕ → ℕ → Checked A
   accepted : A → Checked A
 
 -- Stop 8: "node × 32 + attribute of the first pair by node then attribute". The first number counts what is left to look at.
@@ -236,19 +263,19 @@ gapFrom s (suc k) n = elim (gapAt s (attributeCount s) n 0) [ none ↦ gapFrom s
 
 unfoldable pub complete : Sheet → Option ℕ → Checked Sheet
 complete s none = accepted s
-complete s (some place) = refused 8 place
+complete s (some place) = refused 8 at-place place
 
 -- "Order: 1, then commands from the front and in each command 2 to 7, then 8". The commands from offset `at`, where the rest of the
 -- bytes is `l`. The first number bounds how many there are; the sheet's length and one more always suffices (Accepted.antt).
 unfoldable pub readCommands : ℕ → Sheet → ℕ → ℕ → List ℕ → Checked Sheet
-readCommands zero s part at l = refused 2 at
+readCommands zero s part at l = refused 2 at-place at
 readCommands (suc k) s part at l =
     elim (readNext s part l) [
-      | stops number offset ↦ refused number (at + offset)
+      | stops number at-offset offset ↦ refused number at-place at + offset
       | ends ↦ complete s (gapFrom s (nodeCount s) 0)
-      | goes-on width part′ s′ ↦ readCommands k s′ part′ (at + width) (drop width l)
+      | goes-on next ↦ readCommands k (next .sheet) (next .part) (at + next .width) (drop (next .width) l)
     ]
 
 unfoldable pub checkSheet : List ℕ → Checked Sheet
 checkSheet bytes =
-    cond (leb (length bytes) 65536) (readCommands (suc (length bytes)) emptySheet attribute-part 0 bytes) (refused 1 0)
+    cond (leb (length bytes) 65536) (readCommands (suc (length bytes)) emptySheet attribute-part 0 bytes) (refused 1 at-place 0)

@@ -6,7 +6,7 @@ use lib.Dec.{leb, ltb, eqb}
 use lib.ListN.{length, take, drop, getD}
 use Rattle.saiga.specs.Values.{ofBytes, toBytes, isWord, ofWord, toWord}
 use Rattle.saiga.specs.Types.{attributeAt}
-use Rattle.saiga.specs.Sheet.{Sheet, nodeCount, attributeCount, Checked, refused, accepted}
+use Rattle.saiga.specs.Sheet.{Sheet, nodeCount, attributeCount, Checked, refused_at-place_, accepted}
 use Rattle.saiga.specs.Caching.{Entry, kept, isKept}
 
 -- "An entry is node (2), attribute (1), a zero byte, parameter (4), value (4)."
@@ -43,7 +43,7 @@ readEntries s zero before l = accepted before
 readEntries s (suc k) before l =
     elim (isEntry s before (take 12 l)) [
       | true ↦ readEntries s k (before ++ entryOf s (take 12 l) ∷ []) (drop 12 l)
-      | false ↦ refused 10 (length before)
+      | false ↦ refused 10 at-place length before
     ]
 
 -- "capacity 0 to 1,024"
@@ -55,7 +55,7 @@ unfoldable pub checkStore : Sheet → List ℕ → ℕ → Checked (List Entry)
 checkStore s store k =
     cond (eqb (length store % 12) 0 && leb (length store) 12288 && leb k (capacity store))
     (readEntries s k [] store)
-    (refused 9 0)
+    (refused 9 at-place 0)
 
 -- The store that a call leaves: what it held, the figures finished, and "bytes past the kept entries stay".
 unfoldable pub entriesBytes : List Entry → List ℕ

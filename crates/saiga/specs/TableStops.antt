@@ -3,7 +3,7 @@ use mathlib.Core.List.{List, [], _∷_, _++_}
 use mathlib.Core.Path.{_≡_}
 use Prim.Native.Nat.{ℕ}
 use lib.ListN.{replicate}
-use Rattle.saiga.specs.Sheet.{node-part, Read, stops, readNode}
+use Rattle.saiga.specs.Sheet.{node-part, Read, stops_at-offset_, readNode}
 use Rattle.saiga.specs.TableL.{five, Row, bring, brought}
 use Rattle.saiga.specs.Rows.{times, true-literal, node-literal, one, if-then-else, attribute-of, asks, a-bool, stop, refuses, accepts}
 
@@ -157,6 +157,6 @@ questions =
 unfoldable pub TableStops : Type 0
 TableStops =
     (bring sheets ≡ brought sheets)
-    × (node-after 1024 ≡ stops 3 0)
-    × (node-after 1023 ≡ stops 4 0)
+    × (node-after 1024 ≡ stops 3 at-offset 0)
+    × (node-after 1023 ≡ stops 4 at-offset 0)
     × (bring questions ≡ brought questions)

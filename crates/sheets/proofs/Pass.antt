@@ -13,7 +13,7 @@ use Rattle.sheets.specs.declared.Progress.{Progress}
 use Rattle.sheets.specs.declared.Read.{Read}
 use Rattle.sheets.specs.declared.Read.the-variants.{Stops, Ends, GoesOn}
 use Rattle.sheets.specs.declared.SheetCheck.the-variants.{Refused}
-use Rattle.sheets.specs.Scan.{indexSize, Scanned, stops, ends, goes-on, demand, scanAttribute, clearRow, scanNode, scanFigure, demandRule, scanRule, scanEnd, scanAt, scanCommand, missingFrom, Scan, scanned, scanFrom, start, Reading, ReadAs, Declared, scanOf}
+use Rattle.sheets.specs.Scan.{indexSize, Scanned, stops_at-offset_, ends, goes-on, demand, scanAttribute, clearRow, scanNode, scanFigure, demandRule, scanRule, scanEnd, scanAt, scanCommand, missingFrom, Scan, scanned, scanFrom, start, Reading, ReadAs, Declared, scanOf}
 use Rattle.sheets.proofs.Indexed.{kind-by-index}
 use Rattle.sheets.proofs.Scan.{progress, SoFar, Agrees, stop, end, next, next-agrees, start-so-far}
 
@@ -21,7 +21,7 @@ use Rattle.sheets.proofs.Scan.{progress, SoFar, Agrees, stop, end, next
 
 -- A stop's place is the command's or the byte after it; any other command but the end lies within the bytes.
 abbrev Moves : List ℕ → Progress → Scanned → Type 0
-Moves bytes p (stops number offset) = offset ≤ 1
+Moves bytes p (stops number at-offset offset) = offset ≤ 1
 Moves bytes p ends = Unit {0}
 Moves bytes p (goes-on p′ index) = (p .at < p′ .at) × (p′ .at ≤ length bytes) × (p′ .part ≤ 3)
 
@@ -36,7 +36,7 @@ module _ (bytes : List ℕ) (p : Progress) where
   demand-rule-moves a no-expression t h = omega arith
   demand-rule-moves a (expression e) t h = demand-moves _ 7 t λ b. h
 
-  end-moves : (b : Bool) → Moves bytes p (cond b ends (stops 2 1))
+  end-moves : (b : Bool) → Moves bytes p (cond b ends (stops 2 at-offset 1))
   end-moves true = tt
   end-moves false = omega arith
 
@@ -61,7 +61,7 @@ module _ (bytes : List ℕ) (p : Progress) where
   unfolding scanCommand
   next-moves index = go (ltb (p .at) (length bytes))
     where
-      go : (b : Bool) → Moves bytes p (cond b (scanAt bytes p index (commandOf (getD bytes (p .at) 0))) (stops 2 0))
+      go : (b : Bool) → Moves bytes p (cond b (scanAt bytes p index (commandOf (getD bytes (p .at) 0))) (stops 2 at-offset 0))
       go true = command-moves index (commandOf (getD bytes (p .at) 0))
       go false = omega arith
 
@@ -142,7 +142,7 @@ module _ (bytes first : List ℕ) (p : Progress) (index : List ℕ) (h : Reached
       go (suc k) more same = f k same
 
   module _ (r : Read) (after : List ℕ) (s : ReadAs r after index (scanCommand bytes p index)) where
-    stops-as : (number offset : ℕ) → r ≡ Stops number offset → stops number offset ≡ scanCommand bytes p index
+    stops-as : (number offset : ℕ) → r ≡ Stops number offset → stops number at-offset offset ≡ scanCommand bytes p index
     stops-as number offset told = rw told at (s .read)
 
     ends-as : r ≡ Ends → ends ≡ scanCommand bytes p index

@@ -16,12 +16,12 @@ use borrow.Author.Tests.{leb-true, leb-false, ltb-true, ltb-false, eqb-true, eqb
 use Rattle.saiga.specs.Values.{ofBytes, isWord}
 use Rattle.saiga.specs.Expressions.{Expr, Scope, Whole, no-expression, expression, readWhole}
 use Rattle.saiga.specs.Types.{attributeAt}
-use Rattle.saiga.specs.Sheet.{Sheet, emptySheet, nodeCount, attributeCount, figureFor, ruleFor, ruleScope, ruled, figured, definition, isDefined, gapAt, gapFrom, Command, attribute-command, node-command, figure-command, rule-command, end-command, no-command, commandOf, Read, stops as read-stops, ends as read-ends, goes-on as read-on, require, isNone, readAttribute, readNode, readFigure, requireRule, readRule, readEnd, readCommand, readNext, Checked, refused, accepted, complete, readCommands, checkSheet}
+use Rattle.saiga.specs.Sheet.{Sheet, emptySheet, nodeCount, attributeCount, figureFor, ruleFor, ruleScope, ruled, figured, definition, isDefined, gapAt, gapFrom, Command, attribute-command, node-command, figure-command, rule-command, end-command, no-command, commandOf, Read, stops_at-offset_ as read-stops_at-offset_, ends as read-ends, goes-on as read-on, require, isNone, readAttribute, readNode, readFigure, requireRule, readRule, readEnd, readCommand, readNext, Checked, refused_at-place_, accepted, complete, readCommands, checkSheet}
 use Rattle.saiga.proofs.Inference.{cond-passes}
 use Rattle.sheets.specs.declared.Progress.{Progress}
 use Rattle.sheets.specs.declared.SheetCheck.{SheetCheck}
 use Rattle.sheets.specs.declared.SheetCheck.the-variants.{Refused, Accepted}
-use Rattle.sheets.specs.Scan.{figurePlace, rulePlace, indexSize, figureAt, pieceAt, indexed, Scanned, stops, ends, goes-on, demand, scanAttribute, clearRow, scanNode, scanFigure, demandRule, scanRule, scanEnd, scanAt, scanCommand, pairIndexed, isIndexed, missingAt, missingFrom, Scan, scanned, scanFrom, start, scanSheet, checkOf, Indexed, scanOf, Checks}
+use Rattle.sheets.specs.Scan.{figurePlace, rulePlace, indexSize, figureAt, pieceAt, indexed, Scanned, stops_at-offset_, ends, goes-on, demand, scanAttribute, clearRow, scanNode, scanFigure, demandRule, scanRule, scanEnd, scanAt, scanCommand, pairIndexed, isIndexed, missingAt, missingFrom, Scan, scanned, scanFrom, start, scanSheet, checkOf, Indexed, scanOf, Checks}
 use Rattle.values.specs.Layout.{attributesIn, kindsIn}
 use Rattle.sheets.proofs.Indexed.{attributes-snoc, kinds-snoc, clear-length, clear-other, clear-same, attribute-by-index, definition-by-index, figure-indexed, rule-indexed}
 
@@ -109,10 +109,10 @@ declared d = record {
 
 -- What reading the command at `at` comes to, by the check and by the pass.
 pub data Agrees (bytes : List ℕ) (at : ℕ) : Read → Scanned → Type 0 where
-  stop : {number offset : ℕ} → Agrees bytes at (read-stops number offset) (stops number offset)
+  stop : {number offset : ℕ} → Agrees bytes at (read-stops number at-offset offset) (stops number at-offset offset)
   end : Agrees bytes at read-ends ends
   next : {width part : ℕ} {s : Sheet} {p : Progress} {index : List ℕ} → p ≡ progress s (at + width) part → SoFar bytes s (at + width) part index
-      → Agrees bytes at (read-on width part s) (goes-on p index)
+      → Agrees bytes at (read-on record { width = width; part = part; sheet = s }) (goes-on p index)
 
 -- What follows a test may rest on it.
 module _ (bytes : List ℕ) (at : ℕ) where
@@ -290,7 +290,7 @@ module _ (bytes : List ℕ) (s : Sheet) (at part : ℕ) (index : List ℕ) (h : 
   unfolding readEnd scanEnd
   end-agrees = go (eqb (at + 1) (length bytes)) refl
     where
-      go : (b : Bool) → eqb (at + 1) (length bytes) ≡ b → Agrees bytes at (readEnd (drop (at + 1) bytes)) (cond b ends (stops 2 1))
+      go : (b : Bool) → eqb (at + 1) (length bytes) ≡ b → Agrees bytes at (readEnd (drop (at + 1) bytes)) (cond b ends (stops 2 at-offset 1))
       go true e = rw (drop-of-length-le bytes {i = at + 1} (omega (arith, eqb-true))) end
       go false e = let later : at + 1 < length bytes = omega (arith, eqb-false (at + 1) (length bytes) e) in rw (drop-cons bytes (at + 1) 0) stop
 
@@ -309,7 +309,7 @@ unfolding readNext scanCommand
 next-agrees bytes s at part index h = go (ltb at (length bytes)) refl
   where
     go : (b : Bool) → ltb at (length bytes) ≡ b
-        → Agrees bytes at (readNext s part (drop at bytes)) (cond b (scanAt bytes (progress s at part) index (commandOf (getD bytes at 0))) (stops 2 0))
+        → Agrees bytes at (readNext s part (drop at bytes)) (cond b (scanAt bytes (progress s at part) index (commandOf (getD bytes at 0))) (stops 2 at-offset 0))
     go true e =
         let inside = ltb-true at (length bytes) e in
         rw (drop-cons bytes at 0 inside, ← (add-one at)) (command-agrees bytes s at part index h inside (commandOf (getD bytes at 0)))
@@ -319,7 +319,7 @@ next-agrees bytes s at part index h = go (ltb at (length bytes)) refl
 
 -- What the check and the pass come to.
 abbrev Outcome : List ℕ → Checked Sheet → Scan → Type 0
-Outcome bytes (refused number place) r = r .check ≡ Refused number place
+Outcome bytes (refused number at-place place) r = r .check ≡ Refused number place
 Outcome bytes (accepted s) r = (r .check ≡ Accepted (attributeCount s) (nodeCount s)) × Indexed bytes s (r .index)
 
 commands-agree : (bytes : List ℕ) (k : ℕ) (s : Sheet) (at part : ℕ) (index : List ℕ) → SoFar bytes s at part index
@@ -367,7 +367,7 @@ unfolding checkSheet scanSheet
 sheet-agrees bytes index size = go (leb (length bytes) 65536) refl
   where
     go : (b : Bool) → leb (length bytes) 65536 ≡ b
-        → Outcome bytes (cond b (readCommands (suc (length bytes)) emptySheet 0 0 bytes) (refused 1 0))
+        → Outcome bytes (cond b (readCommands (suc (length bytes)) emptySheet 0 0 bytes) (refused 1 at-place 0))
         (cond b (scanFrom (suc (length bytes)) bytes start (clearRow 512 32768 index)) record { check = Refused 1 0; index = index })
     go false e = refl
     go true e =
@@ -379,7 +379,7 @@ unfolding checkOf
 scan-checks bytes index size = go (checkSheet bytes) (sheet-agrees bytes index size)
   where
     go : (c : Checked Sheet) → Outcome bytes c (scanSheet bytes index) → scanSheet bytes index .check ≡ checkOf c
-    go (refused number place) h = h
+    go (refused number at-place place) h = h
     go (accepted s) h = h .0
 
 pub scan-indexes : (bytes index : List ℕ) (s : Sheet) → length index ≡ indexSize → checkSheet bytes ≡ accepted s → Indexed bytes s (scanSheet bytes index .index)
@@ -387,7 +387,7 @@ scan-indexes bytes index s size e = subst (λ c. Outcome bytes c (scanSheet byte
 
 -- ---- What the code's check comes to
 
-long-refused : (bytes : List ℕ) → 65536 < length bytes → checkSheet bytes ≡ refused 1 0
+long-refused : (bytes : List ℕ) → 65536 < length bytes → checkSheet bytes ≡ refused 1 at-place 0
 unfolding checkSheet
 long-refused bytes h = rw (lt-leb _ _ h)
 

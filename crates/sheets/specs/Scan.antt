@@ -11,7 +11,7 @@ use Rattle.saiga.specs.Values.{baseOf, base, ofBytes, isWord, ofWord}
 use Rattle.saiga.specs.declared.Value.{Value}
 use Rattle.saiga.specs.Expressions.{Whole, no-expression, expression, readWhole}
 use Rattle.saiga.specs.Types.{hasType}
-use Rattle.saiga.specs.Sheet.{Sheet, nodeCount, attributeCount, figureFor, ruleFor, Command, attribute-command, node-command, figure-command, rule-command, end-command, no-command, commandOf, Checked, refused, accepted, checkSheet}
+use Rattle.saiga.specs.Sheet.{Sheet, nodeCount, attributeCount, figureFor, ruleFor, Command, attribute-command, node-command, figure-command, rule-command, end-command, no-command, commandOf, Checked, refused_at-place_, accepted, checkSheet}
 use Rattle.sheets.specs.declared.Progress.{Progress}
 use Rattle.sheets.specs.declared.Read.{Read}
 use Rattle.sheets.specs.declared.Read.the-variants.{Stops, Ends, GoesOn}
@@ -50,14 +50,15 @@ indexed (suc at) f = some (f at)
 -- ---- Commands
 
 -- What reading one command comes to, with the index after it.
+infix 20 stops_at-offset_
 pub data Scanned : Type 0 where
-  stops : ℕ → ℕ → Scanned
+  stops_at-offset_ : ℕ → ℕ → Scanned
   ends : Scanned
   goes-on : Progress → List ℕ → Scanned
 
 unfoldable pub demand : Bool → ℕ → Scanned → Scanned
 demand true number r = r
-demand false number r = stops number 0
+demand false number r = stops number at-offset 0
 
 unfoldable pub scanAttribute : List ℕ → Progress → List ℕ → Scanned
 scanAttribute bytes p index =
@@ -92,7 +93,7 @@ scanFigure bytes p index =
     (goes-on record { at = at + 8; part = 2; attributes = p .attributes; nodes = p .nodes } (set index (figurePlace n a) (at + 1)))))
 
 unfoldable pub demandRule : List ℕ → Progress → ℕ → Whole → Scanned → Scanned
-demandRule bytes p a no-expression r = stops 6 0
+demandRule bytes p a no-expression r = stops 6 at-offset 0
 demandRule bytes p a (expression e) r =
     demand (hasType (attributesIn bytes (p .attributes)) (baseOf (getD bytes (3 * a + 2) 0)) (base (baseOf (getD bytes (3 * a + 1) 0))) e) 7 r
 
@@ -109,7 +110,7 @@ scanRule bytes p index =
     (goes-on record { at = at + 5 + n; part = 3; attributes = p .attributes; nodes = p .nodes } (set index (rulePlace k a) (at + 1))))))
 
 unfoldable pub scanEnd : List ℕ → Progress → Scanned
-scanEnd bytes p = cond (eqb (p .at + 1) (length bytes)) ends (stops 2 1)
+scanEnd bytes p = cond (eqb (p .at + 1) (length bytes)) ends (stops 2 at-offset 1)
 
 unfoldable pub scanAt : List ℕ → Progress → List ℕ → Command → Scanned
 scanAt bytes p index attribute-command = scanAttribute bytes p index
@@ -117,11 +118,11 @@ scanAt bytes p index node-command = scanNode bytes p index
 scanAt bytes p index figure-command = scanFigure bytes p index
 scanAt bytes p index rule-command = scanRule bytes p index
 scanAt bytes p index end-command = scanEnd bytes p
-scanAt bytes p index no-command = stops 2 0
+scanAt bytes p index no-command = stops 2 at-offset 0
 
 unfoldable pub scanCommand : List ℕ → Progress → List ℕ → Scanned
 scanCommand bytes p index =
-    cond (ltb (p .at) (length bytes)) (scanAt bytes p index (commandOf (getD bytes (p .at) 0))) (stops 2 0)
+    cond (ltb (p .at) (length bytes)) (scanAt bytes p index (commandOf (getD bytes (p .at) 0))) (stops 2 at-offset 0)
 
 -- ---- The pass for missing pairs
 
@@ -156,7 +157,7 @@ unfoldable pub scanFrom : ℕ → List ℕ → Progress → List ℕ → Scan
 scanFrom zero bytes p index = record { check = Refused 2 (p .at); index = index }
 scanFrom (suc k) bytes p index =
     elim (scanCommand bytes p index) [
-      | stops number offset ↦ record { check = Refused number (p .at + offset); index = index }
+      | stops number at-offset offset ↦ record { check = Refused number (p .at + offset); index = index }
       | ends ↦ scanned p index (missingFrom bytes index (p .attributes) (p .nodes) 0)
       | goes-on p′ index′ ↦ scanFrom k bytes p′ index′
     ]
@@ -175,7 +176,7 @@ scanSheet bytes index =
 
 -- what the code says of a check
 unfoldable pub checkOf : Checked Sheet → SheetCheck
-checkOf (refused number place) = Refused number place
+checkOf (refused number at-place place) = Refused number place
 checkOf (accepted s) = Accepted (attributeCount s) (nodeCount s)
 
 -- that the command at an offset stands within the sheet's bytes and holds a word of its attribute's type, or a piece that may be an
@@ -219,12 +220,12 @@ pub record Reading (bytes : List ℕ) (p : Progress) : Type 0 where
   pub nodes-bound : p .nodes ≤ 1024
 
 abbrev pub readOf : Read → List ℕ → Scanned
-readOf (Stops number offset) index = stops number offset
+readOf (Stops number offset) index = stops number at-offset offset
 readOf Ends index = ends
 readOf (GoesOn p) index = goes-on p index
 
 abbrev pub indexAfter : Scanned → List ℕ → List ℕ
-indexAfter (stops number offset) index = index
+indexAfter (stops number at-offset offset) index = index
 indexAfter ends index = index
 indexAfter (goes-on p after) index = after
 

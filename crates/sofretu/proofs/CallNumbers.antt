@@ -7,7 +7,7 @@ use native.Mathlib.Omega.{arith}
 use lib.Dec.{leb, eqb}
 use lib.ListN.{length, take, drop, length-replicate}
 use lib.IntN.{ℤ}
-use Rattle.saiga.specs.Sheet.{Sheet, Checked, refused, accepted, checkSheet}
+use Rattle.saiga.specs.Sheet.{Sheet, Checked, refused_at-place_, accepted, checkSheet}
 use Rattle.saiga.specs.Caching.{Entry}
 use Rattle.saiga.specs.Store.{isEntry, entryOf, readEntries, capacity, checkStore}
 use Rattle.saiga.proofs.Accepted.{refused-numbers}
@@ -33,7 +33,7 @@ module _ {sheet index : List ℕ} {r : SheetCheck} (checked : Checks sheet r ind
       go : (C : Checked Sheet) → checkSheet sheet ≡ C → r ≡ checkOf C
           → (number ∷ place ∷ 0 ∷ 0 ∷ [] ≡ sheetFound C)
           × ((attributes nodes : ℕ) → number ∷ place ∷ 0 ∷ 0 ∷ [] ≡ 0 ∷ 0 ∷ attributes ∷ nodes ∷ [] → PreparedSheet sheet index attributes nodes)
-      go (refused n p) c e =
+      go (refused n at-place p) c e =
           let same : for-sheet.Refused n p ≡ for-sheet.Refused number place = sym e ∙ is in
           let a : number ≡ n = cc in
           let b : place ≡ p = cc in
@@ -52,21 +52,21 @@ module _ {sheet index : List ℕ} {r : SheetCheck} (checked : Checks sheet r ind
 
 -- ---- The store
 
-entries-refused : (s : Sheet) (k : ℕ) (before : List Entry) (l : List ℕ) (number place : ℕ) → readEntries s k before l ≡ refused number place → number ≡ 10
+entries-refused : (s : Sheet) (k : ℕ) (before : List Entry) (l : List ℕ) (number place : ℕ) → readEntries s k before l ≡ refused number at-place place → number ≡ 10
 unfolding readEntries
 entries-refused s zero before l number place e = absurd (let z : _≡_ {A = ℕ} 0 1 = cc in omega arith)
 entries-refused s (suc k) before l number place e = go (isEntry s before (take 12 l)) (entries-refused s k (before ++ entryOf s (take 12 l) ∷ []) (drop 12 l) number place) e
   where
-    go : (b : Bool) → (readEntries s k (before ++ entryOf s (take 12 l) ∷ []) (drop 12 l) ≡ refused number place → number ≡ 10)
-        → _≡_ {A = Checked (List Entry)} (elim b [ true ↦ readEntries s k (before ++ entryOf s (take 12 l) ∷ []) (drop 12 l) | false ↦ refused 10 (length before) ]) (refused number place) → number ≡ 10
+    go : (b : Bool) → (readEntries s k (before ++ entryOf s (take 12 l) ∷ []) (drop 12 l) ≡ refused number at-place place → number ≡ 10)
+        → _≡_ {A = Checked (List Entry)} (elim b [ true ↦ readEntries s k (before ++ entryOf s (take 12 l) ∷ []) (drop 12 l) | false ↦ refused 10 at-place (length before) ]) (refused number at-place place) → number ≡ 10
     go true f e = f e
     go false f e = cc
 
-store-number : (s : Sheet) (store : List ℕ) (kept number place : ℕ) → checkStore s store kept ≡ refused number place → 0 < number
+store-number : (s : Sheet) (store : List ℕ) (kept number place : ℕ) → checkStore s store kept ≡ refused number at-place place → 0 < number
 unfolding checkStore
 store-number s store kept number place = go (eqb (length store % 12) 0 && leb (length store) 12288 && leb kept (capacity store)) (entries-refused s kept [] store number place)
   where
-    go : (b : Bool) → (readEntries s kept [] store ≡ refused number place → number ≡ 10) → cond b (readEntries s kept [] store) (refused 9 0) ≡ refused number place → 0 < number
+    go : (b : Bool) → (readEntries s kept [] store ≡ refused number at-place place → number ≡ 10) → cond b (readEntries s kept [] store) (refused 9 at-place 0) ≡ refused number at-place place → 0 < number
     go true f e = omega (arith, f e)
     go false f e = let nine : number ≡ 9 = cc in omega arith
 
@@ -76,7 +76,7 @@ unfolding numberOf
 passing s store kept e = go (checkStore s store kept) refl e
   where
     go : (C : Checked (List Entry)) → checkStore s store kept ≡ C → numberOf C ≡ 0 → (entries : List Entry) × (C ≡ accepted entries)
-    go (refused n p) is z = absurd (omega (arith, store-number s store kept n p is))
+    go (refused n at-place p) is z = absurd (omega (arith, store-number s store kept n p is))
     go (accepted entries) is z = (entries, refl)
 
 -- The check of a store, put to so many of the attributes as the bytes have.
@@ -113,7 +113,7 @@ module _ {sheet : List ℕ} (attributes : ℕ) {stand nodes : ℕ} {store : List
       found (says is) (λ z. let (entries, passes) = passing (declaring sheet attributes nodes) store kept (sym (says is read answer-is .0) ∙ z) in answer-is ∙ ap storeCheckOf passes)
     where
       says : r ≡ for-store.Refused number place → (C : Checked (List Entry)) → r ≡ storeCheckOf C → (number ≡ numberOf C) × (place ≡ placeOf C)
-      says is (refused n p) e = let same : for-store.Refused n p ≡ for-store.Refused number place = sym e ∙ is in (cc, cc)
+      says is (refused n at-place p) e = let same : for-store.Refused n p ≡ for-store.Refused number place = sym e ∙ is in (cc, cc)
       says is (accepted entries) e = absurd (let z : _≡_ {A = ℕ} 0 1 = cc in omega arith)
 
   pub store-acceptance : r ≡ for-store.Accepted → StoreFound sheet attributes nodes store kept links 0 0
@@ -121,7 +121,7 @@ module _ {sheet : List ℕ} (attributes : ℕ) {stand nodes : ℕ} {store : List
   store-acceptance is = found says (λ z. is)
     where
       says : (C : Checked (List Entry)) → r ≡ storeCheckOf C → (0 ≡ numberOf C) × (0 ≡ placeOf C)
-      says (refused n p) e = absurd (let z : _≡_ {A = ℕ} 0 1 = cc in omega arith)
+      says (refused n at-place p) e = absurd (let z : _≡_ {A = ℕ} 0 1 = cc in omega arith)
       says (accepted entries) e = (refl, refl)
 
 -- ---- An answer

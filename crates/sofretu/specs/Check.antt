@@ -3,7 +3,7 @@ use mathlib.Core.List.{List, [], _∷_}
 use mathlib.Core.Path.{_≡_}
 use Prim.Native.Nat.{ℕ, _/_, min}
 use lib.ListN.{length, replicate}
-use Rattle.saiga.specs.Sheet.{Sheet, nodeCount, attributeCount, Checked, refused, accepted}
+use Rattle.saiga.specs.Sheet.{Sheet, nodeCount, attributeCount, Checked, refused_at-place_, accepted}
 use Rattle.saiga.specs.Caching.{Entry}
 use Rattle.saiga.specs.Store.{checkStore}
 use Rattle.values.specs.Layout.{attributesIn}
@@ -11,16 +11,16 @@ use Rattle.calls.specs.Prepared.{PreparedSheet, PreparedStore}
 
 -- the number and the place of a check: 0 and 0 where nothing is refused
 unfoldable pub numberOf : {A : Type 0} → Checked A → ℕ
-numberOf (refused number place) = number
+numberOf (refused number at-place place) = number
 numberOf (accepted x) = 0
 
 unfoldable pub placeOf : {A : Type 0} → Checked A → ℕ
-placeOf (refused number place) = place
+placeOf (refused number at-place place) = place
 placeOf (accepted x) = 0
 
 -- the number, the place, and the numbers of attributes and nodes of a sheet that is accepted
 unfoldable pub sheetFound : Checked Sheet → List ℕ
-sheetFound (refused number place) = number ∷ place ∷ 0 ∷ 0 ∷ []
+sheetFound (refused number at-place place) = number ∷ place ∷ 0 ∷ 0 ∷ []
 sheetFound (accepted s) = 0 ∷ 0 ∷ attributeCount s ∷ nodeCount s ∷ []
 
 -- ---- The check of a store alone

@@ -14,7 +14,7 @@ use borrow.Author.Tests.{ltb-true, eqb-true, eqb-false, eq-eqb, not-true}
 use Rattle.saiga.specs.Values.{Base, isWord, ofWord}
 use Rattle.saiga.specs.declared.Value.{Value}
 use Rattle.saiga.specs.Types.{attributeAt}
-use Rattle.saiga.specs.Sheet.{Sheet, nodeCount, attributeCount, Checked, refused, accepted}
+use Rattle.saiga.specs.Sheet.{Sheet, nodeCount, attributeCount, Checked, refused_at-place_, accepted}
 use Rattle.saiga.specs.Terms.{Occurrence}
 use Rattle.saiga.specs.Caching.{Entry, sameOccurrence, kept, isKept}
 use Rattle.saiga.specs.Store.{entryOf, isEntry, readEntries, checkStore}
@@ -29,7 +29,7 @@ use Rattle.stores.proofs.Chains.{same-key, key-refl, found-below}
 -- ---- Reading entries
 
 andThen : Checked (List Entry) → (List Entry → Checked (List Entry)) → Checked (List Entry)
-andThen (refused number place) f = refused number place
+andThen (refused number at-place place) f = refused number at-place place
 andThen (accepted es) f = f es
 
 module _ (s : Sheet) where
@@ -39,7 +39,7 @@ module _ (s : Sheet) where
   read-one k before l e = rw (e, readEntries)
 
   read-none : (k : ℕ) (before : List Entry) (l : List ℕ) → isEntry s before (take 12 l) ≡ false
-      → readEntries s (suc k) before l ≡ refused 10 (length before)
+      → readEntries s (suc k) before l ≡ refused 10 at-place (length before)
   unfolding readEntries
   read-none k before l e = rw (e, readEntries)
 
@@ -90,7 +90,7 @@ module _ (s : Sheet) (store : List ℕ) where
       ends es′ e false t = absurd (let r = read-next k e ∙ read-none s 0 es′ (drop (12 * k) store) t in let z : _≡_ {A = ℕ} 0 1 = cc in omega arith)
 
       go : (r : Checked (List Entry)) → readEntries s k [] store ≡ r → Last k es
-      go (refused n p) e = absurd (let r = ap (λ n. readEntries s n [] store) (sym (add-one k)) ∙ read-then s k 1 [] store in let z : _≡_ {A = ℕ} 0 1 = cc in omega arith)
+      go (refused n at-place p) e = absurd (let r = ap (λ n. readEntries s n [] store) (sym (add-one k)) ∙ read-then s k 1 [] store in let z : _≡_ {A = ℕ} 0 1 = cc in omega arith)
       go (accepted es′) e = ends es′ e (isEntry s es′ (take 12 (drop (12 * k) store))) refl
 
   pub entries-are : (k : ℕ) (es : List Entry) → readEntries s k [] store ≡ accepted es → es ≡ entriesIn s store k
@@ -106,11 +106,11 @@ module _ (s : Sheet) (store : List ℕ) where
     unfolding entriesIn
     entry-read t = read-next k before ∙ read-single s _ (drop (12 * k) store) t
 
-    pub entry-refused : isEntry s (entriesIn s store k) (take 12 (drop (12 * k) store)) ≡ false → (n : ℕ) → k < n → readEntries s n [] store ≡ refused 10 k
+    pub entry-refused : isEntry s (entriesIn s store k) (take 12 (drop (12 * k) store)) ≡ false → (n : ℕ) → k < n → readEntries s n [] store ≡ refused 10 at-place k
     unfolding andThen
     entry-refused t n h =
         let count : suc k + (n - suc k) ≡ n = omega arith in
-        let one : readEntries s (suc k) [] store ≡ refused 10 k = read-next k before ∙ read-none s 0 _ (drop (12 * k) store) t ∙ ap (refused 10) (entries-count k) in
+        let one : readEntries s (suc k) [] store ≡ refused 10 at-place k = read-next k before ∙ read-none s 0 _ (drop (12 * k) store) t ∙ ap (λ n. refused 10 at-place n) (entries-count k) in
         rw (← count, read-then s (suc k) (n - suc k) [] store, one)
 
 -- ---- Occurrences and keys

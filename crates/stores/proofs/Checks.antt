@@ -12,7 +12,7 @@ use borrow.Author.Tests.{lt-ltb, le-ltb, le-leb, lt-leb, eq-eqb, ne-eqb}
 use Rattle.saiga.specs.Values.{baseOf, ofBytes, isWord}
 use Rattle.saiga.specs.Types.{attributeAt}
 use Rattle.values.specs.Layout.{attributesIn}
-use Rattle.saiga.specs.Sheet.{Sheet, nodeCount, refused, accepted}
+use Rattle.saiga.specs.Sheet.{Sheet, nodeCount, refused_at-place_, accepted}
 use Rattle.saiga.specs.Store.{isEntry, readEntries, checkStore}
 use Rattle.stores.specs.Keys.{keyAt, valueWord, entriesIn, Linked, storeCheckOf, StoreChecked}
 use Rattle.stores.specs.declared.StoreCheck.the-variants.{Refused, Accepted}
@@ -39,15 +39,15 @@ attributes-count l (suc n) = ap suc (attributes-count (drop 3 l) n)
 -- ---- Stop 9
 
 module _ (s : Sheet) (store : List ℕ) (k : ℕ) where
-  pub part-left : (length store % 12 ≡ 0 → ⊥) → checkStore s store k ≡ refused 9 0
+  pub part-left : (length store % 12 ≡ 0 → ⊥) → checkStore s store k ≡ refused 9 at-place 0
   unfolding checkStore
   part-left h = rw (ne-eqb _ _ h)
 
-  pub too-long : 12288 < length store → length store % 12 ≡ 0 → checkStore s store k ≡ refused 9 0
+  pub too-long : 12288 < length store → length store % 12 ≡ 0 → checkStore s store k ≡ refused 9 at-place 0
   unfolding checkStore
   too-long h w = rw (eq-eqb _ _ w, lt-leb _ _ h)
 
-  pub too-many : length store / 12 < k → length store % 12 ≡ 0 → length store ≤ 12288 → checkStore s store k ≡ refused 9 0
+  pub too-many : length store / 12 < k → length store % 12 ≡ 0 → length store ≤ 12288 → checkStore s store k ≡ refused 9 at-place 0
   unfolding checkStore
   too-many h w m = rw (eq-eqb _ _ w, le-leb _ _ m, lt-leb _ _ h)
 
@@ -112,11 +112,11 @@ module _ (types : List ℕ) (attributes nodes : ℕ) (store : List ℕ) (kept : 
       reads = λ s a n. rw add-one (entry-read s store i (c .reads s a n) (sym (test s a n (c .reads s a n)) ∙ e));
     }
 
-    pub check-stops : r ≡ false → (s : Sheet) → s .attributes ≡ attributesIn types attributes → nodeCount s ≡ nodes → readEntries s kept [] store ≡ refused 10 i
+    pub check-stops : r ≡ false → (s : Sheet) → s .attributes ≡ attributesIn types attributes → nodeCount s ≡ nodes → readEntries s kept [] store ≡ refused 10 at-place i
     check-stops e s a n = entry-refused s store i (c .reads s a n) (sym (test s a n (c .reads s a n)) ∙ e) kept more
 
   pub check-refuses : (index : List ℕ) (number place : ℕ)
-      → ((s : Sheet) → s .attributes ≡ attributesIn types attributes → nodeCount s ≡ nodes → checkStore s store kept ≡ refused number place)
+      → ((s : Sheet) → s .attributes ≡ attributesIn types attributes → nodeCount s ≡ nodes → checkStore s store kept ≡ refused number at-place place)
       → length index ≡ 2048 → StoreChecked types attributes nodes store kept index (Refused number place)
   unfolding storeCheckOf
   check-refuses index number place e size = record {

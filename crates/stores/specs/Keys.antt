@@ -8,7 +8,7 @@ use lib.Dec.{eqb}
 use lib.ListN.{length, take, drop, getD}
 use Rattle.saiga.specs.Values.{Base, ofBytes, toBytes, ofWord, toWord}
 use Rattle.saiga.specs.declared.Value.{Value}
-use Rattle.saiga.specs.Sheet.{Sheet, nodeCount, Checked, refused, accepted}
+use Rattle.saiga.specs.Sheet.{Sheet, nodeCount, Checked, refused_at-place_, accepted}
 use Rattle.values.specs.Layout.{attributesIn}
 use Rattle.saiga.specs.Terms.{Occurrence}
 use Rattle.saiga.specs.Caching.{Entry}
@@ -98,7 +98,7 @@ pub record Linked (store : List ℕ) (k : ℕ) (index : List ℕ) : Type 0 where
 
 -- what the code answers of a store
 unfoldable pub storeCheckOf : Checked (List Entry) → StoreCheck
-storeCheckOf (refused number place) = Refused number place
+storeCheckOf (refused number at-place place) = Refused number place
 storeCheckOf (accepted entries) = Accepted
 
 -- What the check of a store answers, for every sheet of these attributes and nodes, and the index that it leaves.
