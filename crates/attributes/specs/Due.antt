@@ -5,6 +5,7 @@ use mathlib.Core.Option.{some}
 use mathlib.Core.Path.{_≡_}
 use Prim.Native.Nat.{ℕ, _+_, _*_, _^_, _≤_, _<_}
 use lib.ListN.{length, getD}
+use Rattle.saiga.specs.Limits.{nodeLimit, storeLimit, depthLimit}
 use Rattle.saiga.specs.Values.{baseOf, isWord, toWord}
 use Rattle.saiga.specs.Sheet.{attributeCount}
 use Rattle.sheets.specs.Scan.{figurePlace, IndexedPair, IndexedRule, ruleNumber}
@@ -49,7 +50,7 @@ Still (Stops number) mem mem′ = mem′ ≡ mem
 -- A store with its index, of a length that passes.
 pub record WriteReady (store links : List ℕ) (kept : ℕ) : Type 0 where
   pub linked : Linked store kept links
-  pub short : length store ≤ 12288
+  pub short : length store ≤ storeLimit
 
 -- A form is open, whose words stand in the memory.
 pub record CloseReady (store links forms : List ℕ) (m : Registers) : Type 0 where
@@ -63,7 +64,7 @@ pub record FormReady (words forms : List ℕ) (m : Registers) : Type 0 where
   pub framed : 1 ≤ m .frames
   pub shallow : m .frames ≤ 16640
   pub inside : m .frames ≤ length words
-  pub few : m .forms < 64
+  pub few : m .forms < depthLimit
   pub room : 4 * m .forms + 4 ≤ length forms
   pub at-short : m .at < 2 ^ 32
   pub end-short : m .end < 2 ^ 32
@@ -80,6 +81,6 @@ pub record AttributeReady (sheet index : List ℕ) (attributes : ℕ) (store lin
   pub all : attributes ≡ attributeCount (pair .sheet)
   pub defined : getD index (figurePlace n a) 0 ≡ 0 → ruleNumber sheet index attributes n a ≡ 0 → ⊥
   pub kept-word : (j : ℕ) → findKey store (m .kept) record { node = n; attribute = a; word = toWord (m .value) } ≡ some j
-      → isWord 1024 (baseOf (getD sheet (3 * a + 1) 0)) (valueWord store j) ≡ true
+      → isWord nodeLimit (baseOf (getD sheet (3 * a + 1) 0)) (valueWord store j) ≡ true
   pub writes : WriteReady store links (m .kept)
   pub form : FormReady words forms m

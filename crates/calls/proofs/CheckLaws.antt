@@ -7,6 +7,7 @@ use native.Mathlib.Omega.{arith}
 use borrow.Author.Tests.{le-leb, lt-leb}
 use lib.Dec.{leb}
 use lib.ListN.{length}
+use Rattle.saiga.specs.Limits.{budgetLimit}
 use Rattle.saiga.specs.Expressions.{Expr}
 use Rattle.saiga.specs.Sheet.{Sheet, nodeCount, attributeCount, Checked, refused_at-place_, accepted, checkSheet}
 use Rattle.saiga.specs.Caching.{Entry}
@@ -47,17 +48,17 @@ verdict-accepted (accepted c) e = (c, refl, cc, cc)
 
 -- ---- The budget and the question
 
-pub budget-refused : (s : Sheet) (c : Call) → 1000000 < c .budget → for-question.Refused 11 ≡ questionOf (s .attributes) (fromBudget s c)
+pub budget-refused : (s : Sheet) (c : Call) → budgetLimit < c .budget → for-question.Refused 11 ≡ questionOf (s .attributes) (fromBudget s c)
 unfolding checkBudget _then-check_ questionOf
-budget-refused s c h = rw (lt-leb (c .budget) 1000000 h)
+budget-refused s c h = rw (lt-leb (c .budget) budgetLimit h)
 
-pub budget-permits : (s : Sheet) (c : Call) → c .budget ≤ 1000000 → fromBudget s c ≡ checkQuestion s (c .question)
+pub budget-permits : (s : Sheet) (c : Call) → c .budget ≤ budgetLimit → fromBudget s c ≡ checkQuestion s (c .question)
 unfolding checkBudget _then-check_
-budget-permits s c h = rw (le-leb (c .budget) 1000000 h)
+budget-permits s c h = rw (le-leb (c .budget) budgetLimit h)
 
 budget-place : (budget : ℕ) {number place : ℕ} → checkBudget budget ≡ refused number at-place place → place ≡ 0
 unfolding checkBudget
-budget-place budget {number} {place} = go (leb budget 1000000)
+budget-place budget {number} {place} = go (leb budget budgetLimit)
   where
     go : (b : Bool) → _≡_ {A = Checked (Unit {0})} (cond b (accepted tt) (refused 11 at-place 0)) (refused number at-place place) → place ≡ 0
     go true e = other cc

@@ -1,5 +1,6 @@
 // The checks of a question call: stops 1 to 13 in their order (document 01, "Stops by origin").
 use expressions::QuestionCheck;
+use saiga::limits::BUDGET_LIMIT;
 use sheets::SheetCheck;
 use stores::StoreCheck;
 ghost use mathlib.Core.Path.{_≡_};
@@ -27,7 +28,7 @@ pub fn check_question(
     requires { ⌜ 3 * attributes ≤ length (now sheet) ⌝ }
     ensures { λ r. ⌜ ((s : Sheet) → SheetOf (now (sheet .entry)) attributes nodes s → r ≡ questionOf (s .attributes) (fromBudget s (asking (now (question .entry)) budget))) ⌝ }
 {
-    if 1000000 < budget {
+    if BUDGET_LIMIT < budget {
         return QuestionCheck::Refused(11);
     }
     expressions::check_question(sheet, attributes, nodes, question)

@@ -6,6 +6,7 @@ use Prim.Native.Nat.{ℕ, _%_, _≤_, _<_}
 use native.Mathlib.Omega.{arith}
 use lib.ListN.{length}
 use borrow.Author.Tests.{le-leb, lt-leb, eq-eqb, ne-eqb}
+use Rattle.saiga.specs.Limits.{expressionLimit}
 use Rattle.saiga.specs.Values.{Base, baseOf}
 use Rattle.saiga.specs.Expressions.{Scope, Reading, malformed, reads, exactly, readExpr, readWhole}
 use Rattle.saiga.specs.Types.{Attribute}
@@ -22,12 +23,12 @@ module _ (nodes attributes : ℕ) (this parameter : Bool) (code : ℕ) (sig : Li
   abbrev p : Base
   p = baseOf code
 
-  pub whole-long : 256 < length l → NoExpression ≡ formedOf sig p (readWhole s l)
+  pub whole-long : expressionLimit < length l → NoExpression ≡ formedOf sig p (readWhole s l)
   unfolding readWhole formedOf
-  whole-long h = rw (lt-leb (length l) 256 h)
+  whole-long h = rw (lt-leb (length l) expressionLimit h)
 
   -- `read` is handed a number that says in one what the scope has of `this`, the parameter and its type
-  module _ (h : length l ≤ 256) (within : ℕ) (code-is : within % 256 ≡ code) (this-is : thisIn within ≡ this)
+  module _ (h : length l ≤ expressionLimit) (within : ℕ) (code-is : within % 256 ≡ code) (this-is : thisIn within ≡ this)
       (parameter-is : parameterIn within ≡ parameter) {r : Form}
       (read : FormAt (scopeOf nodes attributes (thisIn within) (parameterIn within)) sig (baseOf (within % 256)) l r) where
     f : FormAt s sig p l r
@@ -35,7 +36,7 @@ module _ (nodes attributes : ℕ) (this parameter : Bool) (code : ℕ) (sig : Li
 
     pub whole-malformed : r ≡ Malformed → NoExpression ≡ formedOf sig p (readWhole s l)
     unfolding readWhole formOf exactly formedOf
-    whole-malformed e = rw (le-leb (length l) 256 h) (go (readExpr s (length l) l) (sym (f (length l) (omega arith)) ∙ e))
+    whole-malformed e = rw (le-leb (length l) expressionLimit h) (go (readExpr s (length l) l) (sym (f (length l) (omega arith)) ∙ e))
       where
         go : (R : Reading) → formOf sig p R ≡ Malformed → NoExpression ≡ formedOf sig p (exactly (length l) R)
         go malformed e = refl
@@ -45,10 +46,10 @@ module _ (nodes attributes : ℕ) (this parameter : Bool) (code : ℕ) (sig : Li
     unfolding readWhole exactly formedOf
     whole-reads {w} e n =
         let (d, q, v) = form-reads s sig p (readExpr s (length l) l) (sym (f (length l) (omega arith)) ∙ e) in
-        rw (le-leb (length l) 256 h, q, eq-eqb w (length l) n) (ap Expression v)
+        rw (le-leb (length l) expressionLimit h, q, eq-eqb w (length l) n) (ap Expression v)
 
     pub whole-left-over : {w t : ℕ} → r ≡ Reads w t → (w ≡ length l → ⊥) → NoExpression ≡ formedOf sig p (readWhole s l)
     unfolding readWhole exactly formedOf
     whole-left-over {w} e n =
         let (d, q, v) = form-reads s sig p (readExpr s (length l) l) (sym (f (length l) (omega arith)) ∙ e) in
-        rw (le-leb (length l) 256 h, q, ne-eqb w (length l) n)
+        rw (le-leb (length l) expressionLimit h, q, ne-eqb w (length l) n)

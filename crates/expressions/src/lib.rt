@@ -1,6 +1,7 @@
 // The form and the type of expressions (document 01, "The sheet"), read in one recursion over the bytes; and the width of the expression at the
 // front of bytes that are known to have one.
 // A type has a number (specs/Forms.antt): 1 Unit, 2 Bool, 3 Int, 4 Node, and from 5 on those of functions; 0 stands for no type.
+use saiga::limits::EXPRESSION_LIMIT;
 ghost use mathlib.Core.Bool.{cond};
 ghost use mathlib.Core.Path.{_≡_};
 ghost use mathlib.Core.List.{List};
@@ -277,7 +278,7 @@ pub fn read_whole(
     ensures { λ r. ⌜ r ≡ formedOf (attributesIn (now (types .entry)) attributes) (baseOf p)
         (readWhole (scopeOf nodes attributes this parameter) (now (e .entry))) ⌝ }
 {
-    if 256 < e.len() {
+    if EXPRESSION_LIMIT < e.len() {
         return Formed::NoExpression;
     }
     let Form::Reads(w, t) = read(types, attributes, nodes, within_of(this, parameter, p), e) else {

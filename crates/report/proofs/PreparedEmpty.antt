@@ -4,6 +4,7 @@ use mathlib.Core.Path.{_≡_, ap, _∙_}
 use Prim.Native.Nat.{ℕ}
 use native.Mathlib.Omega.{arith}
 use lib.ListN.{length}
+use Rattle.saiga.specs.Limits.{storeLimit}
 use Rattle.saiga.specs.Sheet.{Sheet, accepted}
 use Rattle.saiga.specs.Store.{checkStore, readEntries}
 use Rattle.sheets.specs.Scan.{Checks}
@@ -15,7 +16,7 @@ use Rattle.calls.proofs.CheckLaws.{sheet-prepared, sheet-of, store-prepared}
 use Rattle.report.specs.Report.{Prepared}
 
 -- a store of 1,024 entries, of which none is kept
-empty-store : (s : Sheet) (store : List ℕ) → length store ≡ 12288 → checkStore s store 0 ≡ accepted []
+empty-store : (s : Sheet) (store : List ℕ) → length store ≡ storeLimit → checkStore s store 0 ≡ accepted []
 unfolding checkStore readEntries
 empty-store s store e = rw e
 
@@ -27,7 +28,7 @@ module _ {sheet index store links : List ℕ} {r : SheetCheck} (checked : Checks
         store-ready = λ m n h. let z : _≡_ {A = ℕ} 0 1 = cc in absurd (omega arith);
       }
 
-  pub prepared-accepted : {attributes nodes : ℕ} {q : StoreCheck} → r ≡ Accepted attributes nodes → length store ≡ 12288 → StoreChecked sheet attributes nodes store 0 links q
+  pub prepared-accepted : {attributes nodes : ℕ} {q : StoreCheck} → r ≡ Accepted attributes nodes → length store ≡ storeLimit → StoreChecked sheet attributes nodes store 0 links q
       → Prepared (Accepted attributes nodes) sheet index store 0 links
   unfolding storeCheckOf
   prepared-accepted e size stored =

@@ -7,6 +7,7 @@ use mathlib.Core.Path.{_≡_, refl, sym, ap, _∙_}
 use Prim.Native.Nat.{ℕ, _<_}
 use native.Mathlib.Omega.{arith}
 use lib.ListN.{length}
+use Rattle.saiga.specs.Limits.{entryLimit}
 use Rattle.saiga.specs.Ask.{Answer}
 use Rattle.saiga.specs.Calls.{empty, answers}
 use Rattle.lines.specs.Lines.{lineOf}
@@ -20,7 +21,7 @@ use Rattle.report.specs.Report.{View, after, next, turnedBy, givenBy, ta
 
 -- the answers to all of an input
 abbrev all : List ℕ → List ℕ → List Answer
-all sheet input = answers sheet (empty 1024) (calls (items input))
+all sheet input = answers sheet (empty entryLimit) (calls (items input))
 
 -- the answers that are still to be given, where this comes later
 abbrev rest : List ℕ → View → List ℕ → List Answer

@@ -7,6 +7,7 @@ use mathlib.Core.Path.{_≡_, refl, sym, ap, subst, _∙_}
 use Prim.Native.Nat.{ℕ, suc, _+_, _-_, _<_}
 use native.Mathlib.Omega.{arith}
 use lib.ListN.{length}
+use Rattle.saiga.specs.Limits.{entryLimit}
 use Rattle.saiga.specs.Ask.{lent, Answer}
 use Rattle.saiga.specs.Calls.{empty}
 use Rattle.sheets.specs.declared.SheetCheck.{SheetCheck}
@@ -32,7 +33,7 @@ pub record Running (check : SheetCheck) (sheet index input₀ store₀ links₀ 
   pub line-size : length line ≡ 128
 
 -- before the first turn
-pub made-none : {sheet : List ℕ} (input store : List ℕ) → lent store 0 ≡ empty 1024
+pub made-none : {sheet : List ℕ} (input store : List ℕ) → lent store 0 ≡ empty entryLimit
     → Made sheet input store record { from = 0; to = 0; came = 0; kept = 0; ended = false; going = true; line = 0 } 18446744073709551615
 made-none {sheet} input store e =
     record {

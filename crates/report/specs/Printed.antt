@@ -1,6 +1,7 @@
 -- What the report program prints (document 01, "Sheet L and its questions"): sheet.bin and standard input as bytes, and the lines as bytes.
 use mathlib.Core.List.{List, [], _∷_, _++_}
 use Prim.Native.Nat.{ℕ}
+use Rattle.saiga.specs.Limits.{entryLimit, budgetLimit}
 use Rattle.saiga.specs.Ask.{Call, asking, Answer}
 use Rattle.saiga.specs.Calls.{empty, answers}
 use Rattle.lines.specs.Lines.{lineOf}
@@ -14,7 +15,7 @@ put cut = []
 
 -- "all to one store of 1,024 with budget 1,000,000"
 abbrev pub asks : List ℕ → Call
-asks bytes = asking bytes 1000000
+asks bytes = asking bytes budgetLimit
 
 unfoldable pub calls : List Item → List Call
 calls [] = []
@@ -25,4 +26,4 @@ lines [] = []
 lines (a ∷ l) = lineOf a ++ lines l
 
 unfoldable pub printed : List ℕ → List ℕ → List ℕ
-printed sheet input = lines (answers sheet (empty 1024) (calls (items input)))
+printed sheet input = lines (answers sheet (empty entryLimit) (calls (items input)))

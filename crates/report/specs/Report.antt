@@ -6,6 +6,7 @@ use mathlib.Core.Path.{_≡_}
 use Prim.Native.Nat.{ℕ, suc, _+_, _-_, _≤_}
 use lib.Dec.{eqb}
 use lib.ListN.{length, take, drop}
+use Rattle.saiga.specs.Limits.{entryLimit}
 use Rattle.saiga.specs.Ask.{Lent, lent, Answer, ask}
 use Rattle.saiga.specs.Calls.{empty, leaves}
 use Rattle.sheets.specs.Scan.{Checks}
@@ -124,7 +125,7 @@ pub record Fetched (input left : List ℕ) (s r : State) : Type 0 where
 
 -- before the first turn
 abbrev pub start : View
-start = record { hand = []; ended = false; going = true; lends = empty 1024 }
+start = record { hand = []; ended = false; going = true; lends = empty entryLimit }
 
 -- So many turns from the start, each as there was more to do: what they took of the input, the answers that they gave, and where they lead.
 pub data Turns (sheet : List ℕ) : ℕ → List ℕ → List Answer → View → Type 0 where

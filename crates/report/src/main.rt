@@ -2,12 +2,16 @@
 mod system;
 
 use calls::Answer;
+use saiga::limits::BUDGET_LIMIT;
+use saiga::limits::SHEET_LIMIT;
+use saiga::limits::STORE_LIMIT;
 use sheets::SheetCheck;
 use stream::Next;
 ghost use mathlib.Core.Path.{_≡_};
 ghost use Prim.Native.Nat.{_≤_};
 ghost use lib.ListN.{length};
 ghost use lib.Seq.{sets};
+ghost use Rattle.saiga.specs.Limits.{entryLimit, storeLimit};
 ghost use Rattle.saiga.specs.Ask.{lent, ask as called};
 ghost use Rattle.saiga.specs.Calls.{empty};
 ghost use Rattle.calls.specs.Answers.{answerOf};
@@ -102,7 +106,7 @@ fn ask<'a>(
             question,
             store,
             kept,
-            1000000,
+            BUDGET_LIMIT,
             links,
             frames,
             forms,
@@ -283,7 +287,7 @@ fn run(
     forms: &mut [u32; 256],
 ) -> Ending
     requires { ⌜ Prepared check (now sheet) (now index) (now store) 0 (now links) ⌝ }
-    requires { ⌜ lent (now store) 0 ≡ empty 1024 ⌝ }
+    requires { ⌜ lent (now store) 0 ≡ empty entryLimit ⌝ }
     requires { ⌜ 65537 ≤ length (now input) ⌝ }
     ensures { λ r. ⌜ Ran (now (sheet .entry)) (viewOf (now (input .exit)) (now (store .exit)) (r .state)) (r .left) (r .written) ⌝ }
 {
@@ -331,7 +335,7 @@ fn run(
 
 // The sheet is checked, and where it is accepted the empty store is indexed.
 fn prepare(sheet: &[u8], index: &mut [u32; 33280], store: &[u8], links: &mut [u32]) -> SheetCheck
-    requires { ⌜ (length (now store) ≡ 12288) × (length (now links) ≡ 2048) ⌝ }
+    requires { ⌜ (length (now store) ≡ storeLimit) × (length (now links) ≡ 2048) ⌝ }
     ensures { λ r. ⌜ Prepared r (now (sheet .entry)) (now (index .exit)) (now (store .entry)) 0 (now (links .exit)) ⌝ }
 {
     match sheets::check(sheet, index) {
@@ -345,7 +349,7 @@ fn prepare(sheet: &[u8], index: &mut [u32; 33280], store: &[u8], links: &mut [u3
 
 // All questions are put to one store of 1,024 entries, which is empty at first. `index` has room for the sheet's.
 fn answer_all(sheet: &[u8], index: &mut [u32; 33280]) {
-    let mut store = [0u8; 12288];
+    let mut store = [0u8; STORE_LIMIT];
     let mut links = [0u32; 2048];
     let check = prepare(sheet, index, &store, &mut links);
     let mut input = [0u8; 131072];
@@ -364,7 +368,7 @@ fn answer_all(sheet: &[u8], index: &mut [u32; 33280]) {
 }
 
 fn main() {
-    let mut sheet = [0u8; 65537];
+    let mut sheet = [0u8; SHEET_LIMIT + 1];
     let n = system::read_sheet(&mut sheet);
     let mut index = [0u32; 33280];
     answer_all(&sheet[..n], &mut index);

@@ -4,6 +4,7 @@ use mathlib.Core.List.{List}
 use mathlib.Core.Path.{_≡_}
 use Prim.Native.Nat.{ℕ, _≤_, _<_}
 use lib.ListN.{length}
+use Rattle.saiga.specs.Limits.{expressionLimit}
 use Rattle.saiga.specs.Caching.{with-value, Reason, by, Ended}
 use Rattle.saiga.specs.Ask.{reasonNumber}
 use Rattle.engine.specs.RunningPiece.{restOf}
@@ -24,7 +25,7 @@ use Rattle.runs.specs.declared.RunEnd.the-variants.{Pauses, Finishes, St
 pub record MoveReady (sheet index question : List ℕ) (attributes : ℕ) (store links words forms : List ℕ) (m : Registers) : Type 0 where
   pub represents : Represents sheet index question attributes (memoryOf store words forms) m
   pub linked : Linked store (m .kept) links
-  pub short : length question ≤ 256
+  pub short : length question ≤ expressionLimit
 
 -- What is the same of both kinds of move: the width and the packed value that it used, what it left where it does not go on, and the store's
 -- index.
@@ -57,7 +58,7 @@ pub record Running (sheet index question : List ℕ) (attributes budget : ℕ) (
   pub whole : Ended
   pub invariant : Invariant sheet index question attributes budget lent kept whole (memoryOf store words forms) m
   pub linked : Linked store (m .kept) links
-  pub short : length question ≤ 256
+  pub short : length question ≤ expressionLimit
 
 -- the kept number where a run leaves off
 unfoldable pub keptBy : RunEnd → ℕ

@@ -11,6 +11,7 @@ use native.Mathlib.Omega.{arith}
 use lib.Dec.{leb, ltb, eqb}
 use lib.ListN.{length, take, drop, getD, length-append, length-drop}
 use borrow.Author.Tests.{leb-true, ltb-true, eqb-true}
+use Rattle.saiga.specs.Limits.{sheetLimit, attributeLimit, nodeLimit}
 use Rattle.saiga.specs.Values.{base, Value, ofBytes, isWord}
 use Rattle.saiga.specs.Expressions.{Expr, Whole, no-expression, expression, readWhole}
 use Rattle.saiga.specs.Types.{attributeAt}
@@ -21,8 +22,8 @@ use Rattle.saiga.proofs.Inference.{hasType-sound}
 use Rattle.saiga.proofs.Reading.{read-in}
 
 pub record AcceptedSheet (s : Sheet) : Type 0 where
-  pub nodes-bound : nodeCount s ≤ 1024
-  pub attributes-bound : attributeCount s ≤ 32
+  pub nodes-bound : nodeCount s ≤ nodeLimit
+  pub attributes-bound : attributeCount s ≤ attributeLimit
   pub context-in : ContextIn (nodeCount s) (s .attributes) (context s)
 
 -- ---- The sheet so far
@@ -41,8 +42,8 @@ Reads s (piece-of p) = (e : Expr) × (readWhole (ruleScope s) p ≡ expression e
 -- What holds of the sheet between two commands. Attributes and nodes are declared only up to the part of the nodes, where there is
 -- no figure and no rule yet, so each of those was checked on all that is declared.
 record SoFar (s : Sheet) (part : ℕ) : Type 0 where
-  nodes-bound : nodeCount s ≤ 1024
-  attributes-bound : attributeCount s ≤ 32
+  nodes-bound : nodeCount s ≤ nodeLimit
+  attributes-bound : attributeCount s ≤ attributeLimit
   no-figures : part ≤ 1 → s .figures ≡ []
   no-rules : part ≤ 1 → s .rules ≡ []
   figures-give : All (λ f. Gives s (f .attribute) (figure (f .value))) (s .figures)
@@ -85,7 +86,7 @@ attribute-fits : (s : Sheet) (part : ℕ) (l : List ℕ) → Fit s part (suc (le
 unfolding readAttribute
 attribute-fits s part l =
     require-both-fits s part _ (leb part 0) (leb 2 (length l)) 2 _ (omega arith) λ first long.
-    require-fits s part _ (ltb (attributeCount s) 32) 3 _ (omega arith) λ room.
+    require-fits s part _ (ltb (attributeCount s) attributeLimit) 3 _ (omega arith) λ room.
     require-fits s part _ _ 4 _ (omega arith) λ types. (
       omega arith,
       omega (arith, tests),
@@ -104,7 +105,7 @@ node-fits : (s : Sheet) (part : ℕ) (l : List ℕ) → Fit s part (suc (length 
 unfolding readNode
 node-fits s part l =
     require-both-fits s part _ (leb part 1) (leb 1 (length l)) 2 _ (omega arith) λ early long.
-    require-fits s part _ (ltb (nodeCount s) 1024) 3 _ (omega arith) λ room.
+    require-fits s part _ (ltb (nodeCount s) nodeLimit) 3 _ (omega arith) λ room.
     require-fits s part _ _ 4 _ (omega arith) λ kind. (
       omega arith,
       omega (arith, tests),
@@ -299,7 +300,7 @@ commands-verdict (suc k) s part at l h = go (commands-verdict k) (readNext s par
 
 sheet-verdict : (bytes : List ℕ) → Verdict (checkSheet bytes)
 unfolding checkSheet
-sheet-verdict bytes = go (leb (length bytes) 65536)
+sheet-verdict bytes = go (leb (length bytes) sheetLimit)
   where
     go : (b : Bool) → Verdict (cond b (readCommands (suc (length bytes)) emptySheet 0 0 bytes) (refused 1 at-place 0))
     go true = commands-verdict (suc (length bytes)) emptySheet 0 0 bytes

@@ -9,6 +9,7 @@ use native.Mathlib.Omega.{arith}
 use borrow.Author.Tests.{le-leb, lt-leb, leb-true, leb-false}
 use lib.Dec.{leb}
 use lib.ListN.{length}
+use Rattle.saiga.specs.Limits.{budgetLimit}
 use Rattle.saiga.specs.Values.{Base, Ty, base, _⇒_, unit, unitT}
 use Rattle.saiga.specs.Expressions.{Expr, Whole, no-expression, expression, readWhole}
 use Rattle.saiga.specs.Types.{infer}
@@ -64,7 +65,7 @@ module _ (s : Sheet) (cap budget : ℕ) (entries : List Entry) (e : Expr) where
 pub record Passed (sheet : List ℕ) (m : Lent) (c : Call) (a : AcceptedCall) : Type 0 where
   pub sheet-is : checkSheet sheet ≡ accepted (a .sheet)
   pub entries-are : checkStore (a .sheet) (m .store) (m .kept) ≡ accepted (a .entries)
-  pub permitted : c .budget ≤ 1000000
+  pub permitted : c .budget ≤ budgetLimit
   pub question-is : checkQuestion (a .sheet) (c .question) ≡ accepted (a .question)
 
 -- a chain that accepts has an accepting first check, and goes on with what it found
@@ -74,12 +75,12 @@ unfolding _then-check_
 then-accepted (refused number at-place place) next e = absurd (let z : _≡_ {A = ℕ} 0 1 = cc in omega arith)
 then-accepted (accepted x) next e = (x, refl, e)
 
-pub budget-permitted : (budget : ℕ) {u : Unit {0}} → checkBudget budget ≡ accepted u → budget ≤ 1000000
+pub budget-permitted : (budget : ℕ) {u : Unit {0}} → checkBudget budget ≡ accepted u → budget ≤ budgetLimit
 unfolding checkBudget
-budget-permitted budget = go (leb budget 1000000) refl
+budget-permitted budget = go (leb budget budgetLimit) refl
   where
-    go : (b : Bool) → leb budget 1000000 ≡ b → {u : Unit {0}} → Bool.cond b (accepted tt) (refused 11 at-place 0) ≡ accepted u → budget ≤ 1000000
-    go true h e = leb-true budget 1000000 h
+    go : (b : Bool) → leb budget budgetLimit ≡ b → {u : Unit {0}} → Bool.cond b (accepted tt) (refused 11 at-place 0) ≡ accepted u → budget ≤ budgetLimit
+    go true h e = leb-true budget budgetLimit h
     go false h e = absurd (let z : _≡_ {A = ℕ} 0 1 = cc in omega arith)
 
 pub passed : (sheet : List ℕ) (m : Lent) (c : Call) {a : AcceptedCall} → checkCall sheet m c ≡ accepted a → Passed sheet m c a
@@ -111,21 +112,21 @@ ask-refuses sheet m c e = rw e
 
 module _ (sheet : List ℕ) (s : Sheet) (ok : checkSheet sheet ≡ accepted s) where
   pub call-answered : (m : Lent) (entries : List Entry) (q : List ℕ) (budget : ℕ) (e : Expr) → checkStore s (m .store) (m .kept) ≡ accepted entries
-      → budget ≤ 1000000 → checkQuestion s q ≡ accepted e
+      → budget ≤ budgetLimit → checkQuestion s q ≡ accepted e
       → ask sheet m (asking q budget) ≡ outcome m (runQuestion s (capacity (m .store)) budget entries e)
   unfolding ask checkCall answered checkBudget _then-check_
-  call-answered m entries q budget e pass permitted form = rw (ok, pass, le-leb budget 1000000 permitted, form)
+  call-answered m entries q budget e pass permitted form = rw (ok, pass, le-leb budget budgetLimit permitted, form)
 
   pub call-over : (m : Lent) (entries : List Entry) (q : List ℕ) (budget : ℕ) → checkStore s (m .store) (m .kept) ≡ accepted entries
-      → 1000000 < budget → ask sheet m (asking q budget) ≡ refusal m 11 0
+      → budgetLimit < budget → ask sheet m (asking q budget) ≡ refusal m 11 0
   unfolding ask checkCall answered checkBudget _then-check_
-  call-over m entries q budget pass over = rw (ok, pass, lt-leb budget 1000000 over)
+  call-over m entries q budget pass over = rw (ok, pass, lt-leb budget budgetLimit over)
 
   pub call-malformed : (m : Lent) (entries : List Entry) (q : List ℕ) (budget number place : ℕ) → checkStore s (m .store) (m .kept) ≡ accepted entries
-      → budget ≤ 1000000 → checkQuestion s q ≡ refused number at-place place
+      → budget ≤ budgetLimit → checkQuestion s q ≡ refused number at-place place
       → ask sheet m (asking q budget) ≡ refusal m number place
   unfolding ask checkCall answered checkBudget _then-check_
-  call-malformed m entries q budget number place pass permitted form = rw (ok, pass, le-leb budget 1000000 permitted, form)
+  call-malformed m entries q budget number place pass permitted form = rw (ok, pass, le-leb budget budgetLimit permitted, form)
 
   call-refused : (m : Lent) (q : List ℕ) (budget number place : ℕ) → checkStore s (m .store) (m .kept) ≡ refused number at-place place
       → ask sheet m (asking q budget) ≡ refusal m number place
@@ -134,7 +135,7 @@ module _ (sheet : List ℕ) (s : Sheet) (ok : checkSheet sheet ≡ accepted s) w
 
   -- ---- Larger budgets
 
-  module _ (m : Lent) (q : List ℕ) (b b′ : ℕ) (more : b ≤ b′) (permitted : b′ ≤ 1000000) where
+  module _ (m : Lent) (q : List ℕ) (b b′ : ℕ) (more : b ≤ b′) (permitted : b′ ≤ budgetLimit) where
     budget-run : (entries : List Entry) (e : Expr) → (runQuestion s (capacity (m .store)) b entries e .ending ≡ by spent → ⊥)
         → runQuestion s (capacity (m .store)) b′ entries e ≡ runQuestion s (capacity (m .store)) b entries e
     budget-run entries e n =
@@ -206,7 +207,7 @@ module _ (sheet : List ℕ) (s : Sheet) (ok : checkSheet sheet ≡ accepted s) w
 
   module _ (m : Lent) (entries : List Entry) (pass : Passes m entries) where
     -- what an accepted question leaves passes the checks of the next call, and has the same capacity
-    pub question-leaves : (q : List ℕ) (budget : ℕ) (e : Expr) → budget ≤ 1000000 → checkQuestion s q ≡ accepted e
+    pub question-leaves : (q : List ℕ) (budget : ℕ) (e : Expr) → budget ≤ budgetLimit → checkQuestion s q ≡ accepted e
         → let after = leaves (ask sheet m (asking q budget)) in
         Passes after (runQuestion s (capacity (m .store)) budget entries e .entries) × (length (after .store) ≡ length (m .store))
     question-leaves q budget e permitted form =
@@ -217,20 +218,20 @@ module _ (sheet : List ℕ) (s : Sheet) (ok : checkSheet sheet ≡ accepted s) w
 
     -- A call leaves the store as lent, or it is an accepted question with a permitted budget.
     pub call-cases : (P : Lent → Type 0) (c : Call) → P m
-        → ((e : Expr) → c .budget ≤ 1000000 → checkQuestion s (c .question) ≡ accepted e → P (leaves (ask sheet m c))) → P (leaves (ask sheet m c))
-    call-cases P c lent answered = budgeted (leb (c .budget) 1000000) refl
+        → ((e : Expr) → c .budget ≤ budgetLimit → checkQuestion s (c .question) ≡ accepted e → P (leaves (ask sheet m c))) → P (leaves (ask sheet m c))
+    call-cases P c lent answered = budgeted (leb (c .budget) budgetLimit) refl
       where
         as-lent : (number place : ℕ) → ask sheet m c ≡ refusal m number place → P (leaves (ask sheet m c))
         as-lent number place e = rw e (unfold refusal leaves in lent)
 
-        formed : c .budget ≤ 1000000 → (d : Checked Expr) → checkQuestion s (c .question) ≡ d → P (leaves (ask sheet m c))
+        formed : c .budget ≤ budgetLimit → (d : Checked Expr) → checkQuestion s (c .question) ≡ d → P (leaves (ask sheet m c))
         formed permitted (refused number at-place place) form =
             as-lent number place (call-malformed m entries (c .question) (c .budget) number place pass permitted form)
         formed permitted (accepted e) form = answered e permitted form
 
-        budgeted : (b : Bool) → leb (c .budget) 1000000 ≡ b → P (leaves (ask sheet m c))
-        budgeted true p = formed (leb-true (c .budget) 1000000 p) (checkQuestion s (c .question)) refl
-        budgeted false p = as-lent 11 0 (call-over m entries (c .question) (c .budget) pass (leb-false (c .budget) 1000000 p))
+        budgeted : (b : Bool) → leb (c .budget) budgetLimit ≡ b → P (leaves (ask sheet m c))
+        budgeted true p = formed (leb-true (c .budget) budgetLimit p) (checkQuestion s (c .question)) refl
+        budgeted false p = as-lent 11 0 (call-over m entries (c .question) (c .budget) pass (leb-false (c .budget) budgetLimit p))
 
     -- A store left by a call passes the checks of the next, whatever its values are.
     pub left-store-passes : (c : Call) → (after : List Entry) × Passes (leaves (ask sheet m c)) after

@@ -9,6 +9,7 @@ use native.Mathlib.Omega.{arith}
 use borrow.Author.Tests.{le-leb, eq-eqb, leb-true, leb-false}
 use lib.Dec.{leb, leb·zero}
 use lib.ListN.{length}
+use Rattle.saiga.specs.Limits.{entryWidth, storeLimit, budgetLimit}
 use Rattle.saiga.specs.Values.{unit}
 use Rattle.saiga.specs.Expressions.{Expr}
 use Rattle.saiga.specs.Sheet.{Sheet, Checked, refused_at-place_, accepted, checkSheet, context}
@@ -47,26 +48,26 @@ module _ (sheet : List ℕ) (s : Sheet) (ok : checkSheet sheet ≡ accepted s) w
       let h = f .size in
       let l = f .within in
       record {
-        passes = rw (f .none-kept, eq-eqb (length (m .store) % 12) 0 (omega arith), le-leb (length (m .store)) 12288 (omega arith), leb·zero (capacity (m .store)));
+        passes = rw (f .none-kept, eq-eqb (length (m .store) % entryWidth) 0 (omega arith), le-leb (length (m .store)) storeLimit (omega arith), leb·zero (capacity (m .store)));
         sized = omega arith;
         right = record { right = λ o v k. unfold kept in absurd (Option·none-ne-some v k) };
       }
 
   module _ (size : ℕ) (entries : List Entry) (m : Lent) (r : Reached size entries m) where
-    answer-is : (q : List ℕ) (budget : ℕ) (e : Expr) → budget ≤ 1000000 → checkQuestion s q ≡ accepted e
+    answer-is : (q : List ℕ) (budget : ℕ) (e : Expr) → budget ≤ budgetLimit → checkQuestion s q ≡ accepted e
         → ask sheet m (asking q budget) .answer ≡ endedAnswer (runQuestion s size budget entries e)
     unfolding outcome
     answer-is q budget e permitted form =
         ap (λ o. o .answer) (call-answered sheet s ok m entries q budget e (r .passes) permitted form)
         ∙ ap (λ k. endedAnswer (runQuestion s k budget entries e)) (r .sized)
 
-    reached-question : (q : List ℕ) (budget : ℕ) (e : Expr) → budget ≤ 1000000 → checkQuestion s q ≡ accepted e
+    reached-question : (q : List ℕ) (budget : ℕ) (e : Expr) → budget ≤ budgetLimit → checkQuestion s q ≡ accepted e
         → Reached size (runQuestion s size budget entries e .entries) (leaves (ask sheet m (asking q budget)))
     reached-question q budget e permitted form =
         let left = question-leaves sheet s ok m entries (r .passes) q budget e permitted form in
         rw (← r .sized) record {
           passes = left .0;
-          sized = ap (λ n. n / 12) (left .1);
+          sized = ap (λ n. n / entryWidth) (left .1);
           right = right-run (context s) (question-runs s (capacity (m .store)) budget entries e) (r .right) (unfold asked in (faithful-put (context s) 0 unit e));
         }
 
@@ -104,13 +105,13 @@ module _ (sheet : List ℕ) (s : Sheet) (ok : checkSheet sheet ≡ accepted s) w
           (faithful-put (context s) 0 unit e) (question-runs s size budget (p .small) e) (question-runs s size′ budget (p .large) e)
 
     pair-call : (m m′ : Lent) → Paired m m′ → (c : Call) → Paired (leaves (ask sheet m c)) (leaves (ask sheet m′ c))
-    pair-call m m′ p c = budgeted (leb (c .budget) 1000000) refl
+    pair-call m m′ p c = budgeted (leb (c .budget) budgetLimit) refl
       where
         as-lent : (number place : ℕ) → ask sheet m c ≡ refusal m number place
             → ask sheet m′ c ≡ refusal m′ number place → Paired (leaves (ask sheet m c)) (leaves (ask sheet m′ c))
         as-lent number place e e′ = rw (e, e′) (unfold refusal leaves in p)
 
-        formed : c .budget ≤ 1000000 → (d : Checked Expr) → checkQuestion s (c .question) ≡ d → Paired (leaves (ask sheet m c)) (leaves (ask sheet m′ c))
+        formed : c .budget ≤ budgetLimit → (d : Checked Expr) → checkQuestion s (c .question) ≡ d → Paired (leaves (ask sheet m c)) (leaves (ask sheet m′ c))
         formed permitted (refused number at-place place) form =
             as-lent number place
             (call-malformed sheet s ok m (p .small) (c .question) (c .budget) number place (p .small-reached .passes) permitted form)
@@ -123,10 +124,10 @@ module _ (sheet : List ℕ) (s : Sheet) (ok : checkSheet sheet ≡ accepted s) w
           nested = pair-runs m m′ p (c .question) (c .budget) e .0;
         }
 
-        budgeted : (b : Bool) → leb (c .budget) 1000000 ≡ b → Paired (leaves (ask sheet m c)) (leaves (ask sheet m′ c))
-        budgeted true h = formed (leb-true (c .budget) 1000000 h) (checkQuestion s (c .question)) refl
+        budgeted : (b : Bool) → leb (c .budget) budgetLimit ≡ b → Paired (leaves (ask sheet m c)) (leaves (ask sheet m′ c))
+        budgeted true h = formed (leb-true (c .budget) budgetLimit h) (checkQuestion s (c .question)) refl
         budgeted false h =
-            let over = leb-false (c .budget) 1000000 h in
+            let over = leb-false (c .budget) budgetLimit h in
             as-lent 11 0
             (call-over sheet s ok m (p .small) (c .question) (c .budget) (p .small-reached .passes) over)
             (call-over sheet s ok m′ (p .large) (c .question) (c .budget) (p .large-reached .passes) over)
@@ -140,17 +141,17 @@ module _ (sheet : List ℕ) (s : Sheet) (ok : checkSheet sheet ≡ accepted s) w
 
   -- an answer with an ending of plain Saiga's was given under a permitted budget
   ending-permitted : (m : Lent) (entries : List Entry) (q : List ℕ) (budget : ℕ) → Passes sheet s ok m entries
-      → HasEnding (ask sheet m (asking q budget) .answer) → budget ≤ 1000000
+      → HasEnding (ask sheet m (asking q budget) .answer) → budget ≤ budgetLimit
   unfolding HasEnding refusal
-  ending-permitted m entries q budget pass h = go (leb budget 1000000) refl
+  ending-permitted m entries q budget pass h = go (leb budget budgetLimit) refl
     where
       refute : (ask sheet m (asking q budget) .answer .number ≡ 11) → HasEnding (ask sheet m (asking q budget) .answer) → ⊥
       refute e (inl h) = omega (arith, e, h)
       refute e (inr h) = omega (arith, e, h)
 
-      go : (b : Bool) → leb budget 1000000 ≡ b → budget ≤ 1000000
-      go true p = leb-true budget 1000000 p
-      go false p = absurd (refute (ap (λ o. o .answer .number) (call-over sheet s ok m entries q budget pass (leb-false budget 1000000 p))) h)
+      go : (b : Bool) → leb budget budgetLimit ≡ b → budget ≤ budgetLimit
+      go true p = leb-true budget budgetLimit p
+      go false p = absurd (refute (ap (λ o. o .answer .number) (call-over sheet s ok m entries q budget pass (leb-false budget budgetLimit p))) h)
 
   ending-at : (size : ℕ) (first : Lent) → First size first → (before : List Call) (q : List ℕ) (e : Expr) → checkQuestion s q ≡ accepted e → (budget : ℕ)
       → let r = outcome-at sheet first before q budget .answer in

@@ -8,6 +8,7 @@ use Prim.Native.Nat.{ℕ, zero, suc, _+_}
 use lib.Dec.{eqb, leb}
 use lib.ListN.{length}
 use native.Mathlib.Nat.{zero-add, suc-add}
+use Rattle.saiga.specs.Limits.{depthLimit}
 use Rattle.saiga.specs.Values.{Value, null, truth, nodeOf, apply}
 use Rattle.saiga.specs.Expressions.{Expr, literal, if, application, attribute, this, parameter}
 use Rattle.saiga.specs.Terms.{Occurrence, Term, val, cond, app, attr, form, put}
@@ -179,7 +180,7 @@ module _ (context : ℕ → ℕ → Expr) where
     seen-attr : (os : List Occurrence) (v : Value) (a : ℕ) (w : Value)
         → SeenAs (attr (val v) a (val w)) (attrApp context s b os record { node = nodeOf v; attribute = a; parameter = w })
     unfolding attrApp plainStep stepPart plainAttribute erase
-    seen-attr os v a w = go (eqb (nodeOf v) null) refl b (leb 64 (length os))
+    seen-attr os v a w = go (eqb (nodeOf v) null) refl b (leb depthLimit (length os))
       where
         o : Occurrence
         o = record { node = nodeOf v; attribute = a; parameter = w }

@@ -9,16 +9,16 @@ use lib.IntN.{ℤ, pos, negsuc}
 use lib.ListN.{length}
 use lib.Signed.{mag}
 use borrow.Author.Tests.{ltb-true, ltb-false, eqb-true, eqb-false, lt-ltb, le-ltb, eq-eqb}
-use Rattle.saiga.specs.Values.{Base, unitT, boolT, intT, nodeT, base, Value, bool, int, typeOf, null, lowest, highest, held, equalZ, ofBytes, toBytes, signed, unsigned, bit, isWord, ofWord, toWord, typeCode, sameValue}
+use Rattle.saiga.specs.Values.{Base, unitT, boolT, intT, nodeT, base, Value, bool, int, typeOf, null, lowest, highest, held, equalZ, words, signBit, ofBytes, toBytes, signed, unsigned, bit, isWord, ofWord, toWord, typeCode, sameValue}
 use Rattle.saiga.specs.Sound.{IsA}
 
 -- ---- The form of a value
 
-unsigned-signed : (w : ℕ) → w < 4294967296 → unsigned (signed w) ≡ w
+unsigned-signed : (w : ℕ) → w < words → unsigned (signed w) ≡ w
 unfolding unsigned signed
-unsigned-signed w h = go (ltb w 2147483648)
+unsigned-signed w h = go (ltb w signBit)
   where
-    go : (b : Bool) → unsigned (cond b (pos w) (negsuc (4294967295 - w))) ≡ w
+    go : (b : Bool) → unsigned (cond b (pos w) (negsuc (words - 1 - w))) ≡ w
     go true = refl
     go false = omega arith
 
@@ -33,7 +33,7 @@ pub word-trip : (nodes : ℕ) (B : Base) (w : ℕ) → isWord nodes B w ≡ true
 unfolding isWord ofWord toWord
 word-trip nodes unitT w h = sym (eqb-true w 0 h)
 word-trip nodes boolT w h = bit-is-one w (ltb-true w 2 h)
-word-trip nodes intT w h = unsigned-signed w (ltb-true w 4294967296 h)
+word-trip nodes intT w h = unsigned-signed w (ltb-true w words h)
 word-trip nodes nodeT w h = refl
 
 -- a word of a type on a sheet of so many nodes is one on a larger
@@ -55,14 +55,14 @@ word-more {nodes} {more} nodeT w n h = go (ltb w nodes) refl h
 pub word-in : (nodes : ℕ) (B : Base) (w : ℕ) → isWord nodes B w ≡ true → IsA nodes B (ofWord B w)
 word-in nodes B w h = record { is-word = rw (word-trip nodes B w h) h; round-trip = rw (word-trip nodes B w h) }
 
-pub word-small : (nodes : ℕ) (B : Base) (w : ℕ) → nodes ≤ 65536 → isWord nodes B w ≡ true → w < 4294967296
+pub word-small : (nodes : ℕ) (B : Base) (w : ℕ) → nodes ≤ 65536 → isWord nodes B w ≡ true → w < words
 unfolding isWord
 word-small nodes unitT w n h = let e = eqb-true w 0 h in omega arith
 word-small nodes boolT w n h = let e = ltb-true w 2 h in omega arith
-word-small nodes intT w n h = ltb-true w 4294967296 h
+word-small nodes intT w n h = ltb-true w words h
 word-small nodes nodeT w n h = go (ltb w nodes) refl h
   where
-    go : (b : Bool) → ltb w nodes ≡ b → (b || eqb w null) ≡ true → w < 4294967296
+    go : (b : Bool) → ltb w nodes ≡ b → (b || eqb w null) ≡ true → w < words
     go true e k = let l = ltb-true w nodes e in omega arith
     go false e k = let l = eqb-true w null k in omega arith
 
@@ -98,31 +98,31 @@ unfolding isWord ofWord toWord
 bool-in nodes true = record { is-word = refl; round-trip = refl }
 bool-in nodes false = record { is-word = refl; round-trip = refl }
 
-pub signed-unsigned : (z : ℤ) → mag z < 2147483648 → signed (unsigned z) ≡ z
+pub signed-unsigned : (z : ℤ) → mag z < signBit → signed (unsigned z) ≡ z
 unfolding signed unsigned
-signed-unsigned (pos n) h = rw (lt-ltb n 2147483648 h)
-signed-unsigned (negsuc n) h = rw (le-ltb (4294967295 - n) 2147483648 (omega arith)) (ap negsuc (omega arith))
+signed-unsigned (pos n) h = rw (lt-ltb n signBit h)
+signed-unsigned (negsuc n) h = rw (le-ltb (words - 1 - n) signBit (omega arith)) (ap negsuc (omega arith))
 
-unsigned-small : (z : ℤ) → mag z < 2147483648 → unsigned z < 4294967296
+unsigned-small : (z : ℤ) → mag z < signBit → unsigned z < words
 unfolding unsigned
 unsigned-small (pos n) h = omega arith
 unsigned-small (negsuc n) h = omega arith
 
 -- An Int is a number with `mag` below 2^31.
-int-in : (nodes : ℕ) (z : ℤ) → mag z < 2147483648 → IsA nodes intT (int z)
+int-in : (nodes : ℕ) (z : ℤ) → mag z < signBit → IsA nodes intT (int z)
 unfolding isWord ofWord toWord
-int-in nodes z h = record { is-word = lt-ltb (unsigned z) 4294967296 (unsigned-small z h); round-trip = ap int (signed-unsigned z h) }
+int-in nodes z h = record { is-word = lt-ltb (unsigned z) words (unsigned-small z h); round-trip = ap int (signed-unsigned z h) }
 
-held-mag : (z : ℤ) → mag (held z) < 2147483648
+held-mag : (z : ℤ) → mag (held z) < signBit
 unfolding held
 held-mag (pos n) = go (ltb 2147483647 n) refl
   where
-    go : (b : Bool) → ltb 2147483647 n ≡ b → mag (cond b highest (pos n)) < 2147483648
+    go : (b : Bool) → ltb 2147483647 n ≡ b → mag (cond b highest (pos n)) < signBit
     go true e = lit< tt
     go false e = let l = ltb-false 2147483647 n e in omega arith
 held-mag (negsuc n) = go (ltb 2147483647 n) refl
   where
-    go : (b : Bool) → ltb 2147483647 n ≡ b → mag (cond b lowest (negsuc n)) < 2147483648
+    go : (b : Bool) → ltb 2147483647 n ≡ b → mag (cond b lowest (negsuc n)) < signBit
     go true e = lit< tt
     go false e = let l = ltb-false 2147483647 n e in omega arith
 

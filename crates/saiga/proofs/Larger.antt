@@ -10,6 +10,7 @@ use native.Mathlib.Omega.{arith}
 use lib.Dec.{leb, ltb, eqb}
 use lib.ListN.{length}
 use borrow.Author.Tests.{leb-true, leb-false, lt-leb, ltb-true, lt-ltb}
+use Rattle.saiga.specs.Limits.{depthLimit}
 use Rattle.saiga.specs.Values.{Value, null, nodeOf}
 use Rattle.saiga.specs.Expressions.{Expr}
 use Rattle.saiga.specs.Terms.{Occurrence, val, cond, app, attr, form, put}
@@ -178,18 +179,18 @@ module _ (context : ℕ → ℕ → Expr) (s S : List Entry) (within : Contained
       lands (some v) e = rw (e, within o v e) (at-once (ahead-refl S (form o (val v))))
 
       -- the tests of attrApp, one after the other
-      by-depth : (d : Bool) → leb 64 (length os) ≡ d → eqb (nodeOf n) null ≡ false → B ≡ true
+      by-depth : (d : Bool) → leb depthLimit (length os) ≡ d → eqb (nodeOf n) null ≡ false → B ≡ true
           → Follows context S B os′ (attr (val n) a (val w)) (Bool.cond d (halts depth) (counts (AttrApp a) (opened s)))
       by-depth true e no-null budget = tt
       by-depth false e no-null budget =
-          let shallow : leb 64 (length os′) ≡ false = lt-leb 64 (length os′) (omega (arith, leb-false 64 (length os) e)) in
+          let shallow : leb depthLimit (length os′) ≡ false = lt-leb depthLimit (length os′) (omega (arith, leb-false depthLimit (length os) e)) in
           inr (opened S, rw (no-null, budget, shallow), lands (kept s o) refl)
 
       deep : Due
-      deep = Bool.cond (leb 64 (length os)) (halts depth) (counts (AttrApp a) (opened s))
+      deep = Bool.cond (leb depthLimit (length os)) (halts depth) (counts (AttrApp a) (opened s))
 
       by-budget : (c : Bool) → b ≡ c → eqb (nodeOf n) null ≡ false → Follows context S B os′ (attr (val n) a (val w)) (Bool.cond c deep (halts spent))
-      by-budget true e no-null = by-depth (leb 64 (length os)) refl no-null (budgets e)
+      by-budget true e no-null = by-depth (leb depthLimit (length os)) refl no-null (budgets e)
       by-budget false e no-null = tt
 
       by-null : (z : Bool) → eqb (nodeOf n) null ≡ z

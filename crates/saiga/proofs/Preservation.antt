@@ -10,6 +10,7 @@ use lib.Dec.{eqb, ltb, leb}
 use lib.ListN.{length}
 use native.Mathlib.Omega.{arith}
 use borrow.Author.Tests.{ltb-true, lt-ltb}
+use Rattle.saiga.specs.Limits.{depthLimit}
 use Rattle.saiga.specs.Values.{Base, nodeT, Ty, base, _⇒_, Value, unit, bool, int, node, function, holding, Function, le, equalInt, equalNode, negation, add, subtract, Holding, leOf, equalIntOf, equalNodeOf, addTo, subtractFrom, functionType, holdingType, typeOf, null, truth, nodeOf, applyFunction, applyHolding, apply, isWord, ofWord, toWord}
 use Rattle.saiga.specs.Expressions.{Expr, Scope}
 use Rattle.saiga.specs.Types.{Attribute, attributeAt}
@@ -215,7 +216,7 @@ module _ (nodes : ℕ) (sig : List Attribute) where
     attrApp-in os v a x ha hv hx =
         either D (eqb (nodeOf v) null) {x = halts null-node} (λ _. tt)
         (λ q. either D b {y = halts spent}
-        (λ _. either D (leb 64 (length os)) {x = halts depth} (λ _. tt)
+        (λ _. either D (leb depthLimit (length os)) {x = halts depth} (λ _. tt)
         (λ _. let o = due-occurrence nodes sig v a x ha hv hx q in form∈ (o, refl) (keptOr-in _ o _ refl)))
         (λ _. tt))
       where

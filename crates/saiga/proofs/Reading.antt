@@ -8,6 +8,7 @@ use native.Mathlib.Omega.{arith}
 use lib.Dec.{leb, ltb, eqb}
 use lib.ListN.{length, take, drop, getD, length-drop}
 use borrow.Author.Tests.{leb-true, eqb-true}
+use Rattle.saiga.specs.Limits.{expressionLimit}
 use Rattle.saiga.specs.Values.{Base, Ty, Function, le, equalInt, equalNode, negation, add, subtract, function, functionOf, functionType, typeOf, Value, ofBytes, isWord}
 use Rattle.saiga.specs.Expressions.{Expr, literal, if, application, attribute, this, parameter, Head, base-literal, function-literal, if-head, application-head, attribute-head, this-head, parameter-head, no-head, headOf, operandWidth, Scope, Reading, malformed, reads, _followed-by_, whenever, readOperand, readAfter, readExpr, no-expression, expression, exactly, readWhole}
 use Rattle.saiga.specs.Types.{Attribute, Typed, infer}
@@ -151,7 +152,7 @@ exactly-reads n (reads d w) e h =
 
 pub whole-reads : (s : Scope) (l : List ℕ) (e : Expr) → readWhole s l ≡ expression e → readExpr s (length l) l ≡ reads e (length l)
 unfolding readWhole
-whole-reads s l e h = exactly-reads (length l) _ e (cond-passes (leb (length l) 256) h no-whole .1)
+whole-reads s l e h = exactly-reads (length l) _ e (cond-passes (leb (length l) expressionLimit) h no-whole .1)
 
 pub read-in : (sc : Scope) (sig : List Attribute) (p : Base) (l : List ℕ) (e : Expr) (T : Ty) → sc .attributes ≡ length sig → readWhole sc l ≡ expression e
     → infer sig p e ≡ some T → ExprIn sc sig p e T

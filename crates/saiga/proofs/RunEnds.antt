@@ -11,6 +11,7 @@ use native.Mathlib.Omega.{arith}
 use borrow.Author.Tests.{ltb-true, ltb-false}
 use lib.Dec.{ltb, leb, eqb}
 use lib.ListN.{length}
+use Rattle.saiga.specs.Limits.{depthLimit}
 use Rattle.saiga.specs.Values.{Value, null, truth}
 use Rattle.saiga.specs.Expressions.{Expr, literal, if, application, attribute, this, parameter}
 use Rattle.saiga.specs.Terms.{Occurrence, val, cond, app, attr, form, put}
@@ -91,7 +92,7 @@ one-left n = omega arith
 module _ (context : ℕ → ℕ → Expr) (s : List Entry) (b : Bool) where
   falls-attr : (os : List Occurrence) (o : Occurrence) (n : ℕ) → Falls b n (attrApp context s b os o)
   unfolding attrApp forms
-  falls-attr os o n = go (eqb (o .node) null) b refl (leb 64 (length os))
+  falls-attr os o n = go (eqb (o .node) null) b refl (leb depthLimit (length os))
     where
       t : Running
       t = form o (keptOr (kept s o) (put (o .node) (o .parameter) (context (o .node) (o .attribute))))

@@ -6,6 +6,7 @@ use Prim.Native.Nat.{ℕ, suc, _*_}
 use lib.Dec.{leb}
 use lib.ListN.{length}
 use lib.IntN.{ℤ, pos}
+use Rattle.saiga.specs.Limits.{budgetLimit}
 use Rattle.saiga.specs.Values.{unitT, Ty, base, _⇒_, unit, typeCode, decimal}
 use Rattle.saiga.specs.Expressions.{Expr, Whole, no-expression, expression, readWhole}
 use Rattle.saiga.specs.Types.{infer}
@@ -102,7 +103,7 @@ unfoldable pub _then-check_ : {A B : Type 0} → Checked A → (A → Checked B)
 
 -- "11 budget above 1,000,000."
 unfoldable pub checkBudget : ℕ → Checked (Unit {0})
-checkBudget budget = cond (leb budget 1000000) (accepted tt) (refused 11 at-place 0)
+checkBudget budget = cond (leb budget budgetLimit) (accepted tt) (refused 11 at-place 0)
 
 -- A call that no check refuses: what its sheet, its kept entries and its question say.
 pub record AcceptedCall : Type 0 where

@@ -6,6 +6,7 @@ use mathlib.Core.List.{List, [], _∷_, _++_}
 use Prim.Native.Nat.{ℕ, zero, suc}
 use lib.Dec.{eqb, ltb, leb}
 use lib.ListN.{length}
+use Rattle.saiga.specs.Limits.{depthLimit}
 use Rattle.saiga.specs.Values.{Value, null, truth, nodeOf, apply, sameValue}
 use Rattle.saiga.specs.Expressions.{Expr}
 use Rattle.saiga.specs.Terms.{Occurrence, Term, val, cond, app, attr, form, put}
@@ -83,7 +84,7 @@ module _ (context : ℕ → ℕ → Expr) (s : List Entry) (has-budget : Bool) w
   attrApp open-forms o =
       Bool.cond (eqb (o .node) null) (halts null-node)
       (Bool.cond has-budget
-      (Bool.cond (leb 64 (length open-forms)) (halts depth)
+      (Bool.cond (leb depthLimit (length open-forms)) (halts depth)
       (counts (AttrApp (o .attribute)) (form o (keptOr (kept s o) (put (o .node) (o .parameter) (context (o .node) (o .attribute)))))))
       (halts spent))
 

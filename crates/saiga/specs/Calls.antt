@@ -2,11 +2,12 @@
 use mathlib.Core.List.{List, [], _∷_}
 use Prim.Native.Nat.{ℕ, _*_}
 use lib.ListN.{replicate}
+use Rattle.saiga.specs.Limits.{entryWidth}
 use Rattle.saiga.specs.Ask.{Lent, lent, Call, Answer, Outcome, ask}
 
 -- a store of this capacity, empty
 abbrev pub empty : ℕ → Lent
-empty capacity = lent (replicate (12 * capacity) 0) 0
+empty capacity = lent (replicate (entryWidth * capacity) 0) 0
 
 unfoldable pub leaves : Outcome → Lent
 leaves o = lent (o .store) (o .answer .kept)

@@ -5,6 +5,7 @@ use mathlib.Core.Logic.{_⊎_}
 use mathlib.Core.Path.{_≡_}
 use Prim.Native.Nat.{ℕ, _*_, _≤_}
 use lib.ListN.{length}
+use Rattle.saiga.specs.Limits.{entryWidth, entryLimit, budgetLimit}
 use Rattle.saiga.specs.Values.{Value, typeCode, decimal}
 use Rattle.saiga.specs.Expressions.{Expr}
 use Rattle.saiga.specs.Sheet.{Sheet, accepted, checkSheet, context}
@@ -32,8 +33,8 @@ HasEnding r = (r .number ≡ 0) ⊎ (r .number ≡ 14)
 
 -- "The first is lent a store of any capacity from 0 to 1,024, any bytes, kept 0".
 pub record First (capacity : ℕ) (m : Lent) : Type 0 where
-  pub within : capacity ≤ 1024
-  pub size : length (m .store) ≡ 12 * capacity
+  pub within : capacity ≤ entryLimit
+  pub size : length (m .store) ≡ entryWidth * capacity
   pub none-kept : m .kept ≡ 0
 
 -- A place in a list of calls is what stands before it. The outcome there of a question with a budget:
@@ -54,7 +55,7 @@ pub record OfSheet (sheet : List ℕ) (s : Sheet) : Type 0 where
   pub complete :
       (capacity : ℕ) (first : Lent) → First capacity first → (before : List Call) (question : List ℕ) (e : Expr) →
       checkQuestion s question ≡ accepted e → (ending : PlainEnding) (n : ℕ) → PlainEnds s e ending n →
-      (budget : ℕ) → n ≤ budget → budget ≤ 1000000 →
+      (budget : ℕ) → n ≤ budget → budget ≤ budgetLimit →
       let r = outcome-at sheet first before question budget .answer in
       (Brings r ending × (r .steps ≤ n)) ⊎ (r .number ≡ 16)
   -- Sound: whatever the budget, such an ending is reported only if plain Saiga comes to the same in no fewer steps.
@@ -79,7 +80,7 @@ pub record OfSheet (sheet : List ℕ) (s : Sheet) : Type 0 where
   -- Larger budgets: from any one store, right or wrong in its values, reached by a list or not, every larger permitted budget gives the
   -- same answer, all fields, and leaves the same store, every byte, unless the smaller budget's was 15.
   pub larger-budgets :
-      (m : Lent) (question : List ℕ) (budget budget′ : ℕ) → budget ≤ budget′ → budget′ ≤ 1000000 →
+      (m : Lent) (question : List ℕ) (budget budget′ : ℕ) → budget ≤ budget′ → budget′ ≤ budgetLimit →
       let small = ask sheet m (asking question budget) in
       (small .answer .number ≡ 15 → ⊥) → ask sheet m (asking question budget′) ≡ small
 

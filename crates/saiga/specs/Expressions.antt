@@ -4,6 +4,7 @@ use mathlib.Core.List.{List, [], _∷_}
 use Prim.Native.Nat.{ℕ, zero, suc, _+_}
 use lib.Dec.{leb, ltb, eqb}
 use lib.ListN.{length, take, drop, getD}
+use Rattle.saiga.specs.Limits.{expressionLimit}
 use Rattle.saiga.specs.Values.{Base, unitT, boolT, intT, nodeT, Value, function, functionOf, ofBytes, isWord, ofWord}
 
 -- 001, figure 7, with document 01's "this node" and "the parameter".
@@ -108,4 +109,4 @@ exactly n (reads e w) = cond (eqb w n) (expression e) no-expression
 
 unfoldable pub readWhole : Scope → List ℕ → Whole
 readWhole s l =
-    cond (leb (length l) 256) (exactly (length l) (readExpr s (length l) l)) no-expression
+    cond (leb (length l) expressionLimit) (exactly (length l) (readExpr s (length l) l)) no-expression

@@ -5,6 +5,7 @@ use mathlib.Core.List.{List, [], _∷_, _++_}
 use Prim.Native.Nat.{ℕ, zero, suc, _+_, _*_}
 use lib.Dec.{leb, ltb, eqb}
 use lib.ListN.{length, take, drop, getD}
+use Rattle.saiga.specs.Limits.{sheetLimit, attributeLimit, nodeLimit, lastKind}
 use Rattle.saiga.specs.Values.{baseOf, base, Value, unit, ofBytes, isWord, ofWord}
 use Rattle.saiga.specs.Expressions.{Expr, literal, Scope, Whole, no-expression, expression, readWhole}
 use Rattle.saiga.specs.Types.{Attribute, attributeAt, hasType}
@@ -137,7 +138,7 @@ require false number r = stops number at-offset 0
 unfoldable pub readAttribute : Sheet → ℕ → List ℕ → Read
 readAttribute s part l =
     require (leb part attribute-part && leb 2 (length l)) 2
-    (require (ltb (attributeCount s) 32) 3
+    (require (ltb (attributeCount s) attributeLimit) 3
     (require (ltb (getD l 0 0) 4 && ltb (getD l 1 0) 4) 4
     (goes-on record {
       width = 3;
@@ -154,8 +155,8 @@ readAttribute s part l =
 unfoldable pub readNode : Sheet → ℕ → List ℕ → Read
 readNode s part l =
     require (leb part node-part && leb 1 (length l)) 2
-    (require (ltb (nodeCount s) 1024) 3
-    (require (leb (getD l 0 0) 15) 4
+    (require (ltb (nodeCount s) nodeLimit) 3
+    (require (leb (getD l 0 0) lastKind) 4
     (goes-on record {
       width = 2;
       part = node-part;
@@ -207,7 +208,7 @@ readRule s part l =
     let n = ofBytes (take 2 (drop 2 l)) in
     let p = take n (drop 4 l) in
     require (leb part rule-part && leb (4 + n) (length l) && leb 4 (length l)) 2
-    (require (leb k 15 && ltb a (attributeCount s)) 4
+    (require (leb k lastKind && ltb a (attributeCount s)) 4
     (require (isNone (ruleFor (s .rules) k a)) 5
     (requireRule s a (readWhole (ruleScope s) p)
     (goes-on record {
@@ -255,7 +256,7 @@ isDefined (piece-of p) = true
 
 unfoldable pub gapAt : Sheet → ℕ → ℕ → ℕ → Option ℕ
 gapAt s zero n a = none
-gapAt s (suc k) n a = elim (isDefined (definition s n a)) [ true ↦ gapAt s k n (suc a) | false ↦ some (n * 32 + a) ]
+gapAt s (suc k) n a = elim (isDefined (definition s n a)) [ true ↦ gapAt s k n (suc a) | false ↦ some (n * attributeLimit + a) ]
 
 unfoldable pub gapFrom : Sheet → ℕ → ℕ → Option ℕ
 gapFrom s zero n = none
@@ -278,4 +279,4 @@ readCommands (suc k) s part at l =
 
 unfoldable pub checkSheet : List ℕ → Checked Sheet
 checkSheet bytes =
-    cond (leb (length bytes) 65536) (readCommands (suc (length bytes)) emptySheet attribute-part 0 bytes) (refused 1 at-place 0)
+    cond (leb (length bytes) sheetLimit) (readCommands (suc (length bytes)) emptySheet attribute-part 0 bytes) (refused 1 at-place 0)

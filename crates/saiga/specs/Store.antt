@@ -4,6 +4,7 @@ use mathlib.Core.List.{List, [], _∷_, _++_}
 use Prim.Native.Nat.{ℕ, zero, suc, _*_, _/_, _%_}
 use lib.Dec.{leb, ltb, eqb}
 use lib.ListN.{length, take, drop, getD}
+use Rattle.saiga.specs.Limits.{entryWidth, storeLimit}
 use Rattle.saiga.specs.Values.{ofBytes, toBytes, isWord, ofWord, toWord}
 use Rattle.saiga.specs.Types.{attributeAt}
 use Rattle.saiga.specs.Sheet.{Sheet, nodeCount, attributeCount, Checked, refused_at-place_, accepted}
@@ -41,19 +42,19 @@ isEntry s before l =
 unfoldable pub readEntries : Sheet → ℕ → List Entry → List ℕ → Checked (List Entry)
 readEntries s zero before l = accepted before
 readEntries s (suc k) before l =
-    elim (isEntry s before (take 12 l)) [
-      | true ↦ readEntries s k (before ++ entryOf s (take 12 l) ∷ []) (drop 12 l)
+    elim (isEntry s before (take entryWidth l)) [
+      | true ↦ readEntries s k (before ++ entryOf s (take entryWidth l) ∷ []) (drop entryWidth l)
       | false ↦ refused 10 at-place length before
     ]
 
 -- "capacity 0 to 1,024"
 abbrev pub capacity : List ℕ → ℕ
-capacity store = length store / 12
+capacity store = length store / entryWidth
 
 -- "9 store length no multiple of 12 or over 12,288, or kept above capacity."
 unfoldable pub checkStore : Sheet → List ℕ → ℕ → Checked (List Entry)
 checkStore s store k =
-    cond (eqb (length store % 12) 0 && leb (length store) 12288 && leb k (capacity store))
+    cond (eqb (length store % entryWidth) 0 && leb (length store) storeLimit && leb k (capacity store))
     (readEntries s k [] store)
     (refused 9 at-place 0)
 
@@ -64,4 +65,4 @@ entriesBytes (e ∷ l) = entryBytes e ++ entriesBytes l
 
 unfoldable pub leftStore : List ℕ → ℕ → List Entry → List ℕ
 leftStore store k after =
-    take (12 * k) store ++ entriesBytes (drop k after) ++ drop (12 * length after) store
+    take (entryWidth * k) store ++ entriesBytes (drop k after) ++ drop (entryWidth * length after) store

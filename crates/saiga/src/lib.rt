@@ -1,4 +1,5 @@
 // The values of document 01, "Values and functions": the enums that the engine's code and the definitions of specs/ share.
+pub mod limits;
 
 // The functions by their codes 0 to 5.
 pub enum Function {

@@ -7,6 +7,7 @@ use native.Mathlib.Omega.{arith}
 use lib.Dec.{leb, eqb}
 use lib.ListN.{length, take, drop, length-replicate}
 use lib.IntN.{ℤ}
+use Rattle.saiga.specs.Limits.{entryWidth, storeLimit}
 use Rattle.saiga.specs.Sheet.{Sheet, Checked, refused_at-place_, accepted, checkSheet}
 use Rattle.saiga.specs.Caching.{Entry}
 use Rattle.saiga.specs.Store.{isEntry, entryOf, readEntries, capacity, checkStore}
@@ -55,16 +56,16 @@ module _ {sheet index : List ℕ} {r : SheetCheck} (checked : Checks sheet r ind
 entries-refused : (s : Sheet) (k : ℕ) (before : List Entry) (l : List ℕ) (number place : ℕ) → readEntries s k before l ≡ refused number at-place place → number ≡ 10
 unfolding readEntries
 entries-refused s zero before l number place e = absurd (let z : _≡_ {A = ℕ} 0 1 = cc in omega arith)
-entries-refused s (suc k) before l number place e = go (isEntry s before (take 12 l)) (entries-refused s k (before ++ entryOf s (take 12 l) ∷ []) (drop 12 l) number place) e
+entries-refused s (suc k) before l number place e = go (isEntry s before (take entryWidth l)) (entries-refused s k (before ++ entryOf s (take entryWidth l) ∷ []) (drop entryWidth l) number place) e
   where
-    go : (b : Bool) → (readEntries s k (before ++ entryOf s (take 12 l) ∷ []) (drop 12 l) ≡ refused number at-place place → number ≡ 10)
-        → _≡_ {A = Checked (List Entry)} (elim b [ true ↦ readEntries s k (before ++ entryOf s (take 12 l) ∷ []) (drop 12 l) | false ↦ refused 10 at-place (length before) ]) (refused number at-place place) → number ≡ 10
+    go : (b : Bool) → (readEntries s k (before ++ entryOf s (take entryWidth l) ∷ []) (drop entryWidth l) ≡ refused number at-place place → number ≡ 10)
+        → _≡_ {A = Checked (List Entry)} (elim b [ true ↦ readEntries s k (before ++ entryOf s (take entryWidth l) ∷ []) (drop entryWidth l) | false ↦ refused 10 at-place (length before) ]) (refused number at-place place) → number ≡ 10
     go true f e = f e
     go false f e = cc
 
 store-number : (s : Sheet) (store : List ℕ) (kept number place : ℕ) → checkStore s store kept ≡ refused number at-place place → 0 < number
 unfolding checkStore
-store-number s store kept number place = go (eqb (length store % 12) 0 && leb (length store) 12288 && leb kept (capacity store)) (entries-refused s kept [] store number place)
+store-number s store kept number place = go (eqb (length store % entryWidth) 0 && leb (length store) storeLimit && leb kept (capacity store)) (entries-refused s kept [] store number place)
   where
     go : (b : Bool) → (readEntries s kept [] store ≡ refused number at-place place → number ≡ 10) → cond b (readEntries s kept [] store) (refused 9 at-place 0) ≡ refused number at-place place → 0 < number
     go true f e = omega (arith, f e)
