@@ -22,11 +22,25 @@
 extern "C" {
 #endif
 
-/* The lengths of the lent arrays. */
-#define SOFRETU_INDEX 33280
-#define SOFRETU_LINKS 2048
-#define SOFRETU_FRAMES 16640
-#define SOFRETU_FORMS 256
+/* Scratch that a caller lends: of a checked sheet, of a checked store, and of a run. What they hold is the library's affair and may change with it: a
+ * caller makes them, lends them, and looks at nothing inside. */
+#define SOFRETU_SHEET_WORDS 33282
+#define SOFRETU_STORE_WORDS 2048
+#define SOFRETU_RUN_WORDS 16896
+
+typedef struct {
+    uint32_t words[SOFRETU_SHEET_WORDS];
+} sofretu_checked_sheet;
+
+typedef struct {
+    uint32_t words[SOFRETU_STORE_WORDS];
+} sofretu_checked_store;
+
+typedef struct {
+    uint64_t words[SOFRETU_RUN_WORDS];
+} sofretu_run;
+
+/* The numbers of an answer. */
 #define SOFRETU_FIELDS 6
 
 /* A store's entry has 12 bytes: node (2), attribute (1), zero (1), parameter (4), value (4), little-endian. A store has room for 0 to
@@ -78,42 +92,41 @@ void sofretu_ask(const uint8_t *sheet, uint64_t sheet_len,
                  uint64_t budget,
                  int64_t answer[SOFRETU_FIELDS]);
 
-/* The same with lent scratch. Nothing is asked of what the scratch holds. Afterwards `index` is that of an accepted sheet, as sofretu_check_sheet
- * leaves it, and free of a refused one; `links` are those of the store that is left, if sheet and store were accepted, and else free; `frames`
- * and `forms` are as lent under stops 1 to 13, and else free. */
+/* The same with lent scratch. Nothing is asked of what the scratch holds. Afterwards `checked_sheet` is that of an accepted sheet, as
+ * sofretu_check_sheet leaves it, and free of a refused one; `checked_store` is that of the store that is left, if sheet and store were accepted, and
+ * else free; `run` is as lent under stops 1 to 13, and else free. */
 void sofretu_ask_in(const uint8_t *sheet, uint64_t sheet_len,
                     const uint8_t *question, uint64_t question_len,
                     uint8_t *store, uint64_t store_len, uint64_t kept,
                     uint64_t budget,
-                    uint32_t index[SOFRETU_INDEX], uint32_t links[SOFRETU_LINKS],
-                    uint64_t frames[SOFRETU_FRAMES], uint32_t forms[SOFRETU_FORMS],
+                    sofretu_checked_sheet *checked_sheet, sofretu_checked_store *checked_store, sofretu_run *run,
                     int64_t answer[SOFRETU_FIELDS]);
 
 /* The check of a sheet, once for many questions: 0, or the stop's number, 1 to 8. `found` is place, attributes, nodes: the place is 0 of
- * an accepted sheet, the other two are 0 of a refused one. Fills `index`, which is free afterwards of a refused sheet. */
+ * an accepted sheet, the other two are 0 of a refused one. Fills `checked_sheet`, which is free afterwards of a refused sheet. */
 uint32_t sofretu_check_sheet(const uint8_t *sheet, uint64_t sheet_len,
-                             uint32_t index[SOFRETU_INDEX], uint64_t found[3]);
+                             sofretu_checked_sheet *checked_sheet, uint64_t found[3]);
 
-/* The check of a store, of a sheet that was accepted with these numbers of attributes and nodes: 0, 9 or 10, with its place. Fills `links`, which
- * are free afterwards of a refused store. Of other numbers it answers as for a sheet of so many nodes and of as many of these attributes as stand
- * in its first bytes, three bytes to each: result type and parameter type are the second and the third (0 Unit, 1 Bool, 2 Int, else Node). */
+/* The check of a store, for a sheet that was accepted: 0, 9 or 10, with its place. `checked_sheet` is as sofretu_check_sheet left it when it accepted
+ * these sheet bytes. Fills `checked_store`, which is free afterwards of a refused store. Of any other `checked_sheet` the call answers as for a sheet
+ * of as many nodes and attributes as that says, the attributes being those that stand whole in the sheet's first bytes, three bytes to each: result
+ * type and parameter type are the second and the third (0 Unit, 1 Bool, 2 Int, else Node). */
 uint32_t sofretu_check_store(const uint8_t *sheet, uint64_t sheet_len,
-                             uint64_t attributes, uint64_t nodes,
+                             const sofretu_checked_sheet *checked_sheet,
                              const uint8_t *store, uint64_t store_len, uint64_t kept,
-                             uint32_t links[SOFRETU_LINKS], uint64_t *place);
+                             sofretu_checked_store *checked_store, uint64_t *place);
 
 /* A question to a checked sheet and a checked store: stops 11 to 16 are left. The number kept for the next question is the answer's.
- * REQUIRES: `index`, `attributes` and `nodes` as sofretu_check_sheet left them when it accepted these sheet bytes; `links` as
- * sofretu_check_store, when it accepted these store bytes with this `kept`, or an earlier call of this function left them.
- * With anything else the call has no meaning, and may read or write anywhere. Nothing is asked of `frames` and `forms`, which are as lent
- * under stops 11 to 13 and else free. */
+ * REQUIRES: `checked_sheet` as sofretu_check_sheet left it when it accepted these sheet bytes; `checked_store` as sofretu_check_store, when it
+ * accepted these store bytes with this `kept`, or an earlier call of this function left it.
+ * With anything else the call has no meaning, and may read or write anywhere. Nothing is asked of `run`, which is as lent under stops 11 to 13 and
+ * else free. */
 void sofretu_ask_checked(const uint8_t *sheet, uint64_t sheet_len,
-                         uint64_t attributes, uint64_t nodes, const uint32_t index[SOFRETU_INDEX],
+                         const sofretu_checked_sheet *checked_sheet,
                          const uint8_t *question, uint64_t question_len,
                          uint8_t *store, uint64_t store_len, uint64_t kept,
                          uint64_t budget,
-                         uint32_t links[SOFRETU_LINKS],
-                         uint64_t frames[SOFRETU_FRAMES], uint32_t forms[SOFRETU_FORMS],
+                         sofretu_checked_store *checked_store, sofretu_run *run,
                          int64_t answer[SOFRETU_FIELDS]);
 
 /* The first of stops 1 to 13 that holds of a call's arguments, with its place; or 0. */

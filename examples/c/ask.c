@@ -39,32 +39,29 @@ static const struct {
     {own_of_null, sizeof own_of_null}};
 
 static uint8_t store[SOFRETU_MOST_ENTRIES * SOFRETU_ENTRY];
-static uint32_t sheet_index[SOFRETU_INDEX];
-static uint32_t links[SOFRETU_LINKS];
-static uint64_t frames[SOFRETU_FRAMES];
-static uint32_t forms[SOFRETU_FORMS];
+static sofretu_checked_sheet checked_sheet;
+static sofretu_checked_store checked_store;
+static sofretu_run run;
 
 int main(void) {
     /* The sheet and the store are checked once, then the questions are put one after the other. */
     uint64_t found[3];
-    uint32_t stop = sofretu_check_sheet(sheet, sizeof sheet, sheet_index, found);
+    uint32_t stop = sofretu_check_sheet(sheet, sizeof sheet, &checked_sheet, found);
     if (stop != 0) {
         fprintf(stderr, "sheet: stop %" PRIu32 " at %" PRIu64 "\n", stop, found[0]);
         return 1;
     }
-    uint64_t attributes = found[1];
-    uint64_t nodes = found[2];
     uint64_t kept = 0;
     uint64_t place;
-    stop = sofretu_check_store(sheet, sizeof sheet, attributes, nodes, store, sizeof store, kept, links, &place);
+    stop = sofretu_check_store(sheet, sizeof sheet, &checked_sheet, store, sizeof store, kept, &checked_store, &place);
     if (stop != 0) {
         fprintf(stderr, "store: stop %" PRIu32 " at %" PRIu64 "\n", stop, place);
         return 1;
     }
     for (size_t i = 0; i < sizeof questions / sizeof questions[0]; i++) {
         int64_t answer[SOFRETU_FIELDS];
-        sofretu_ask_checked(sheet, sizeof sheet, attributes, nodes, sheet_index, questions[i].bytes, questions[i].len,
-                            store, sizeof store, kept, SOFRETU_MOST_STEPS, links, frames, forms, answer);
+        sofretu_ask_checked(sheet, sizeof sheet, &checked_sheet, questions[i].bytes, questions[i].len, store, sizeof store,
+                            kept, SOFRETU_MOST_STEPS, &checked_store, &run, answer);
         for (int field = 0; field < SOFRETU_FIELDS; field++) {
             printf("%" PRId64 "%c", answer[field], field + 1 < SOFRETU_FIELDS ? ' ' : '\n');
         }

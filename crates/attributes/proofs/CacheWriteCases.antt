@@ -1,70 +1,87 @@
 -- CacheWrite by its three cases, and the laws of the moves that end in it.
 use mathlib.Core.Bool.{Bool, true, false}
 use mathlib.Core.List.{List}
-use mathlib.Core.Option.{none, some}
-use mathlib.Core.Path.{_≡_, ap}
-use Prim.Native.Nat.{ℕ, _+_, _*_, _-_, _/_, _%_}
+use mathlib.Core.Option.{none}
+use mathlib.Core.Path.{_≡_, refl, ap, sym, _∙_}
+use Prim.Native.Nat.{ℕ, _+_, _*_, _-_, _/_, _%_, _≤_, _<_}
+use native.Mathlib.Omega.{arith}
 use lib.Dec.{leb}
+use borrow.Author.Tests.{leb-false}
 use lib.ListN.{length, getD}
+use Rattle.saiga.specs.Limits.{entryLimit}
 use Rattle.saiga.specs.Values.{toWord}
-use Rattle.saiga.specs.declared.Value.{Value}
-use Rattle.stores.specs.Keys.{Key, findKey, recordOf, putAt}
+use Rattle.stores.specs.declared.Key.{Key}
+use Rattle.stores.specs.declared.Found.{Found}
+use Rattle.stores.specs.declared.Found.the-variants.{Nothing, At}
+use Rattle.stores.specs.Keys.{findKey, foundOf, EntryPut}
+use Rattle.stores.proofs.Chains.{nothing-found, found-at}
 use Rattle.engine.specs.declared.Registers.{Registers}
-use Rattle.engine.specs.Ready.{memoryOf}
-use Rattle.engine.specs.Steps.{goes, answered, appended, unlessFound, cacheWrite, closeForm, openFigure}
+use Rattle.engine.specs.Ready.{memoryOf, innermostPlace, innermostPair}
+use Rattle.engine.proofs.RunMemory.{form-at}
+use Rattle.engine.specs.Steps.{goes, appended, unlessFound, cacheWrite, closeForm}
+use Rattle.attributes.specs.Due.{WriteReady}
 
-module _ (store : List ℕ) (kept : ℕ) (q : Key) (value : ℕ) where
-  abbrev isFull : Bool
-  isFull = leb (length store / 12) kept
+-- What is not found is not kept.
+pub not-kept : (store : List ℕ) (kept : ℕ) (q : Key) (r : Found) → r ≡ Nothing → r ≡ foundOf (findKey store kept q) → findKey store kept q ≡ none
+not-kept store kept q r nothing found = nothing-found _ _ found refl nothing
 
-  pub write-full : isFull ≡ true → (store, kept) ≡ cacheWrite store kept q value
-  unfolding cacheWrite
-  write-full full = rw full
+module _ (store : List ℕ) (kept : ℕ) (full : Bool) (is : full ≡ leb (length store / 12) kept) where
+  module _ (q : Key) (value : ℕ) where
+    pub write-full : full ≡ true → (store, kept) ≡ cacheWrite store kept q value
+    unfolding cacheWrite
+    write-full taken = rw (sym is ∙ taken)
 
-  pub write-known : isFull ≡ false → (j : ℕ) → findKey store kept q ≡ some j → (store, kept) ≡ cacheWrite store kept q value
-  unfolding cacheWrite unlessFound
-  write-known room j found = rw (room, found)
+    pub write-known : (r : Found) (j : ℕ) → full ≡ false → r ≡ foundOf (findKey store kept q) → r ≡ At j → (store, kept) ≡ cacheWrite store kept q value
+    unfolding cacheWrite unlessFound
+    write-known r j room found at-j = rw (sym is ∙ room, found-at _ _ found refl _ at-j)
 
-  pub write-new : isFull ≡ false → findKey store kept q ≡ none → {store′ : List ℕ} → store′ ≡ putAt store kept (recordOf q value)
-      → (store′, kept + 1) ≡ cacheWrite store kept q value
-  unfolding cacheWrite unlessFound appended putAt recordOf
-  write-new room absent is = rw (room, absent, is)
+    pub write-new : (store′ index′ : List ℕ) → full ≡ false → findKey store kept q ≡ none → EntryPut store kept q value store′ index′
+        → (store′, kept + 1) ≡ cacheWrite store kept q value
+    unfolding cacheWrite unlessFound appended
+    write-new store′ index′ room absent put = rw (sym is ∙ room, absent, put .bytes)
+
+  -- A store that is not full has room for an entry.
+  module _ (room : full ≡ false) where
+    pub room-stands : 12 * kept + 12 ≤ length store
+    room-stands = let below = leb-false (length store / 12) kept (sym is ∙ room) in omega (arith, below)
+
+    pub room-few : (links : List ℕ) → WriteReady store links kept → kept < entryLimit
+    room-few links ready = omega (arith, room-stands, ready .short)
 
 -- A form is closed with what CacheWrite leaves.
-pub closes : (store words forms : List ℕ) (m : Registers) {store′ : List ℕ} {kept′ w : ℕ} → w ≡ toWord (m .value)
+pub closes : (store run : List ℕ) (m : Registers) (store′ : List ℕ) (kept′ w : ℕ) → w ≡ toWord (m .value)
     → (store′, kept′)
     ≡ cacheWrite store (m .kept)
-    record { node = getD forms (4 * (m .forms - 1)) 0 / 32; attribute = getD forms (4 * (m .forms - 1)) 0 % 32; word = getD forms (4 * (m .forms - 1) + 1) 0 } w
+    record { node = innermostPair run m / 32; attribute = innermostPair run m % 32; word = getD run (innermostPlace m + 1) 0 } w
     → goes record {
       returning = true;
-      at = getD forms (4 * (m .forms - 1) + 2) 0;
-      end = getD forms (4 * (m .forms - 1) + 3) 0;
+      at = getD run (innermostPlace m + 2) 0;
+      end = getD run (innermostPlace m + 3) 0;
       frames = m .frames - 1;
       forms = m .forms - 1;
       kept = kept′;
       steps = m .steps;
       value = m .value;
-    } (memoryOf store′ words forms)
-    ≡ closeForm (memoryOf store words forms) m
+    } (memoryOf store′ run)
+    ≡ closeForm (memoryOf store run) m
 unfolding closeForm
-closes store words forms m is written =
-    ap
+closes store run m store′ kept′ w is written =
+    let f = 4 * (m .forms - 1) in
+    rw (
+      ← form-at run f (innermostPlace m) refl,
+      ← form-at run (f + 1) (innermostPlace m + 1) (omega arith),
+      ← form-at run (f + 2) (innermostPlace m + 2) (omega arith),
+      ← form-at run (f + 3) (innermostPlace m + 3) (omega arith),
+    )
+    (ap
     (λ (w : List ℕ × ℕ). goes record {
       returning = true;
-      at = getD forms (4 * (m .forms - 1) + 2) 0;
-      end = getD forms (4 * (m .forms - 1) + 3) 0;
+      at = getD run (innermostPlace m + 2) 0;
+      end = getD run (innermostPlace m + 3) 0;
       frames = m .frames - 1;
       forms = m .forms - 1;
       kept = w .1;
       steps = m .steps;
       value = m .value;
-    } (memoryOf (w .0) words forms))
-    (rw is at written)
-
--- A figure is answered with what CacheWrite leaves.
-module _ (sheet index : List ℕ) (attributes : ℕ) (store words forms : List ℕ) (m : Registers) (n a word : ℕ) where
-  pub answers : {store′ : List ℕ} {kept′ w : ℕ} (v : Value) → w ≡ toWord v
-      → (store′, kept′) ≡ cacheWrite store (m .kept) record { node = n; attribute = a; word = word } w
-      → goes (answered m kept′ v) (memoryOf store′ words forms) ≡ openFigure sheet index attributes (memoryOf store words forms) m n a word (some v)
-  unfolding openFigure
-  answers v is written = ap (λ (w : List ℕ × ℕ). goes (answered m (w .1) v) (memoryOf (w .0) words forms)) (rw is at written)
+    } (memoryOf (w .0) run))
+    (rw is at written))

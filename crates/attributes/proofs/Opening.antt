@@ -1,69 +1,98 @@
 -- AttrApp by its cases: the rule's piece, the figure, the kept value, and the limits before them.
-use mathlib.Core.Bool.{false}
+use mathlib.Core.Bool.{true, false}
 use mathlib.Core.List.{List}
-use mathlib.Core.Option.{Option, none, some}
+use mathlib.Core.Option.{Option, none}
 use mathlib.Core.Path.{_≡_, refl, ap, _∙_, sym}
 use Prim.Native.Nat.{ℕ, zero, suc, _+_, _*_, _-_, _≤_, _<_}
 use native.Mathlib.Omega.{arith}
 use lib.ListN.{length, take, drop, getD, set, length-drop}
 use lib.Seq.{length-take-le}
 use borrow.Author.Tests.{le-leb, lt-leb, ne-eqb}
-use Rattle.saiga.specs.Values.{baseOf, ofBytes, ofWord, toWord}
+use Rattle.saiga.specs.Values.{baseOf, isWord, nodeOf, ofBytes, ofWord, toWord}
 use Rattle.saiga.specs.declared.Value.{Value}
-use Rattle.sheets.specs.declared.FoundFigure.{FoundFigure}
-use Rattle.sheets.specs.declared.FoundFigure.the-variants.{Of, NoFigure}
+use Rattle.values.specs.Layout.{resultAt}
+use Rattle.sheets.specs.declared.lookup.FoundFigure.{FoundFigure}
+use Rattle.sheets.specs.declared.lookup.FoundFigure.the-variants.{Of, NoFigure}
 use Rattle.sheets.specs.Scan.{figurePlace, figureAt, indexed, pieceAt, figureOf, ruleNumber, IndexedRule}
 use Rattle.sheets.proofs.Lookups.{RuleHere, rule-here}
-use Rattle.stores.specs.Keys.{Key, findKey, valueWord}
+use Rattle.stores.specs.declared.Key.{Key}
+use Rattle.stores.specs.declared.Found.{Found}
+use Rattle.stores.specs.declared.Found.the-variants.{Nothing, At}
+use Rattle.stores.specs.Keys.{Linked, findKey, foundOf, valueWord}
+use Rattle.stores.proofs.Chains.{nothing-found, found-at, found-below}
+use Rattle.values.specs.Packed.{valueIn}
 use Rattle.engine.specs.declared.Registers.{Registers}
+use Rattle.engine.specs.FrameWords.{formKind, heldAttribute, heldNode}
+use Rattle.engine.specs.Decode.{frameLimit}
 use Rattle.engine.specs.Ready.{memoryOf}
-use Rattle.attributes.specs.Due.{keptIn}
-use Rattle.engine.specs.Steps.{Memory, Stepped, goes, waits, stops, answered, openRule, openFigure, takeKept, attributeDue}
+use Rattle.engine.specs.CodeSteps.{keptIn}
+use Rattle.engine.proofs.RunMemory.{form-opened}
+use Rattle.engine.specs.Steps.{Memory, Stepped, goes, waits, stops, answered, cacheWrite, openRule, openFigure, takeKept, attributeDue}
+use Rattle.attributes.specs.Due.{WriteReady, FormReady, RuleReady, AttributeReady}
 
--- what the code found of a figure
-module _ (i : ℕ) (f : ℕ → Value) {r : FoundFigure} (found : figureOf r ≡ indexed i f) where
-  pub no-place : r ≡ NoFigure → i ≡ 0
+-- ---- The figure, or the rule
+
+module _ (sheet index store links run : List ℕ) (m : Registers) (n a : ℕ) (ready : AttributeReady sheet index store links run m n a) where
+  pub attribute-small : a < 256
+  attribute-small = omega (arith, ready .pair .attribute, ready .pair .known .described .attributes-bound)
+
+  -- Where no figure is found, there is a rule.
+  pub rule-ready : (r : FoundFigure) → figureOf r ≡ indexed (getD index (figurePlace n a) 0) (figureAt sheet a) → r ≡ NoFigure
+      → RuleReady sheet index run m n a
   unfolding indexed
-  no-place is = go i (sym found ∙ ap figureOf is)
+  rule-ready r found is =
+      record { rule = record { pair = ready .pair; ruled = ready .defined (go (getD index (figurePlace n a) 0) (sym found ∙ ap figureOf is)) }; form = ready .form }
     where
-      go : (j : ℕ) → indexed j f ≡ none → j ≡ 0
+      go : (j : ℕ) → indexed j (figureAt sheet a) ≡ none → j ≡ 0
       go zero e = refl
       go (suc j) e = absurd (let z : _≡_ {A = ℕ} 0 1 = cc in omega arith)
 
-  pub figure-is : (v : Value) → r ≡ Of v → indexed i f ≡ some v
-  figure-is v is = sym found ∙ ap figureOf is
-
-module _ (sheet index : List ℕ) (attributes : ℕ) (mem : Memory) (m : Registers) (n a word : ℕ) where
-  pub opens : {r : Registers} {mem′ : Memory} {o : Option Value} → goes r mem′ ≡ openRule sheet index attributes mem m n a word → o ≡ none
-      → goes r mem′ ≡ openFigure sheet index attributes mem m n a word o
+module _ (sheet index store run : List ℕ) (m : Registers) (n a word : ℕ) (o : Option Value) (found : FoundFigure) (is : figureOf found ≡ o) where
+  pub opens : (run′ : List ℕ) (r : Registers) → found ≡ NoFigure
+      → ((s : List ℕ) → goes r (memoryOf s run′) ≡ openRule sheet index (memoryOf s run) m n a word)
+      → goes r (memoryOf store run′) ≡ openFigure sheet index (memoryOf store run) m n a word o
   unfolding openFigure
-  opens opened absent = rw absent opened
+  opens run′ r no-figure opened = rw (sym is ∙ ap figureOf no-figure) (opened store)
 
-  pub opening-keeps : {r : Registers} {mem′ : Memory} → goes r mem′ ≡ openRule sheet index attributes mem m n a word → r .kept ≡ m .kept
-  unfolding openRule
-  opening-keeps opened = ap (keptIn 0) opened
+  -- A figure is answered with what CacheWrite leaves.
+  pub answers : (v : Value) (r : Registers) (store′ : List ℕ) (kept′ w : ℕ) → found ≡ Of v → r ≡ answered m kept′ v → w ≡ toWord v
+      → (store′, kept′) ≡ cacheWrite store (m .kept) record { node = n; attribute = a; word = word } w
+      → goes r (memoryOf store′ run) ≡ openFigure sheet index (memoryOf store run) m n a word o
+  unfolding openFigure
+  answers v r store′ kept′ w of by word-is written =
+      rw (by, sym is ∙ ap figureOf of) (ap (λ (w : List ℕ × ℕ). goes (answered m (w .1) v) (memoryOf (w .0) run)) (rw word-is at written))
+
+-- A rule keeps nothing when it opens.
+pub opening-keeps : (sheet index store links run run′ : List ℕ) (m r : Registers) (n a word : ℕ)
+    → ((s : List ℕ) → goes r (memoryOf s run′) ≡ openRule sheet index (memoryOf s run) m n a word) → Linked store (m .kept) links
+    → Linked store (r .kept) links
+unfolding openRule
+opening-keeps sheet index store links run run′ m r n a word opened linked = rw (ap (keptIn 0) (opened store)) linked
+
+pub steps-fit : (run : List ℕ) (m : Registers) → FormReady run m → m .steps + 1 < 18446744073709551616
+steps-fit run m ready = ready .counts
 
 -- The piece of a rule is as long as its command says, and ends within the sheet.
-module _ {sheet index : List ℕ} {attributes n a : ℕ} (rule : IndexedRule sheet index attributes n a) {piece : List ℕ}
-    (is : piece ≡ pieceAt sheet (ruleNumber sheet index attributes n a - 1)) where
+module _ (sheet index : List ℕ) (n a : ℕ) (rule : IndexedRule sheet index n a) (piece : List ℕ)
+    (is : piece ≡ pieceAt sheet (ruleNumber sheet index n a - 1)) where
   abbrev place : ℕ
-  place = ruleNumber sheet index attributes n a
+  place = ruleNumber sheet index n a
 
   abbrev size : ℕ
   size = ofBytes (take 2 (drop (place + 2) sheet))
 
   here : RuleHere sheet place
-  here = rule-here sheet index attributes n a rule _ refl
+  here = rule-here sheet index n a rule _ refl
 
   piece-length : length piece ≡ size
   piece-length =
       rw (is, ← (here .piece))
       (length-take-le size (drop (place + 4) sheet) (omega (arith, here .room, length-drop (place + 4) sheet)))
 
-  pub rule-short : place + 4 + length piece ≤ 65536
-  rule-short = omega (arith, piece-length, here .room, here .short)
+  pub rule-short : (start : ℕ) → start ≡ place + 4 → start + length piece < 18446744073709551616
+  rule-short start starts = omega (arith, starts, piece-length, here .room, here .short)
 
-  pub rule-runs : (store words forms : List ℕ) (m : Registers) (word : ℕ) {start : ℕ} → start ≡ place + 4
+  pub rule-runs : (store run : List ℕ) (m : Registers) (word start : ℕ) → FormReady run m → start ≡ place + 4
       → goes record {
         returning = false;
         at = start;
@@ -73,59 +102,123 @@ module _ {sheet index : List ℕ} {attributes n a : ℕ} (rule : IndexedRule she
         kept = m .kept;
         steps = m .steps + 1;
         value = m .value;
-      } (memoryOf store (set words (m .frames - 1) 6)
-      (set (set (set (set forms (4 * m .forms) (n * 32 + a)) (4 * m .forms + 1) word) (4 * m .forms + 2) (m .at)) (4 * m .forms + 3) (m .end)))
-      ≡ openRule sheet index attributes (memoryOf store words forms) m n a word
+      } (memoryOf store
+      (set
+      (set
+      (set (set (set run (frameLimit + 4 * m .forms) (n * 32 + a)) (frameLimit + 4 * m .forms + 1) word) (frameLimit + 4 * m .forms + 2) (m .at))
+      (frameLimit + 4 * m .forms + 3)
+      (m .end))
+      (m .frames - 1)
+      formKind))
+      ≡ openRule sheet index (memoryOf store run) m n a word
   unfolding openRule
-  rule-runs store words forms m word starts = rw (starts, piece-length)
+  rule-runs store run m word start ready starts =
+      rw (
+        starts,
+        piece-length,
+        form-opened run (m .forms) (n * 32 + a) word (m .at) (m .end) store (m .frames - 1) formKind
+            (omega (arith, ready .frame .inside, ready .frame .framed)),
+      )
 
 -- ---- A kept value, or the definition
 
--- the key that is looked for
-pub due-key : (n a : ℕ) {v w : ℕ} → w ≡ v → _≡_ {A = Key} record { node = n; attribute = a; word = w } record { node = n; attribute = a; word = v }
-due-key n a is i = record { node = n; attribute = a; word = is i }
-
-module _ (sheet index : List ℕ) (attributes : ℕ) (mem : Memory) (m : Registers) (n a : ℕ) where
-  abbrev due : Key
-  due = record { node = n; attribute = a; word = toWord (m .value) }
-
-  pub takes-definition : {r : Registers} {mem′ : Memory} {w : ℕ} → w ≡ toWord (m .value) → findKey (mem .store) (m .kept) due ≡ none
-      → goes r mem′ ≡ openFigure sheet index attributes mem m n a w (indexed (getD index (figurePlace n a) 0) (figureAt sheet a))
-      → goes r mem′ ≡ takeKept sheet index attributes mem m n a (findKey (mem .store) (m .kept) due)
+-- what the code found of the occurrence in the store
+module _ (store : List ℕ) (m : Registers) (q : Key) (found : Found) (is : found ≡ foundOf (findKey store (m .kept) q)) where
+  pub takes-definition : (sheet index run run′ store′ : List ℕ) (r : Registers) → found ≡ Nothing → q .word ≡ toWord (m .value)
+      → goes r (memoryOf store′ run′)
+      ≡ openFigure sheet index (memoryOf store run) m (q .node) (q .attribute) (q .word)
+      (indexed (getD index (figurePlace (q .node) (q .attribute)) 0) (figureAt sheet (q .attribute)))
+      → goes r (memoryOf store′ run′) ≡ takeKept sheet index (memoryOf store run) m (q .node) (q .attribute) (findKey store (m .kept) q)
   unfolding takeKept
-  takes-definition is absent opened = rw absent (rw is at opened)
+  takes-definition sheet index run run′ store′ r nothing word opened = rw (nothing-found _ _ is refl nothing) (rw word at opened)
 
-  pub takes-kept : {v : Value} {w j : ℕ} → findKey (mem .store) (m .kept) due ≡ some j → w ≡ valueWord (mem .store) j → v ≡ ofWord (baseOf (getD sheet (3 * a + 1) 0)) w
-      → goes (answered m (m .kept) v) mem ≡ takeKept sheet index attributes mem m n a (findKey (mem .store) (m .kept) due)
-  unfolding takeKept
-  takes-kept found word value = rw (found, value, word)
+  module _ (j : ℕ) (at-j : found ≡ At j) where
+    pub kept-within : (links : List ℕ) → WriteReady store links (m .kept) → 12 * j + 12 ≤ length store
+    kept-within links writes = let (below, same) = found-below _ _ _ _ (found-at _ _ is refl _ at-j) in omega (arith, below, writes .linked .stands)
 
-  -- ---- The limits, in the order of their numbers
+    pub kept-is-word : (sheet index links run : List ℕ) (w code : ℕ) → AttributeReady sheet index store links run m (q .node) (q .attribute)
+        → q .word ≡ toWord (m .value) → w ≡ valueWord store j → code ≡ resultAt sheet (q .attribute) → isWord 1024 (baseOf code) w ≡ true
+    kept-is-word sheet index links run w code ready word is-word typed =
+        let due : q ≡ record { node = q .node; attribute = q .attribute; word = toWord (m .value) } =
+        λ i. record { node = q .node; attribute = q .attribute; word = word i } in
+        rw (typed, is-word) (ready .kept-word _ (rw due at (found-at _ _ is refl _ at-j)))
 
-  module _ (budget limit : ℕ) where
+    pub takes-kept : (sheet index run : List ℕ) (r : Registers) (v : Value) (w code : ℕ) → w ≡ valueWord store j → code ≡ resultAt sheet (q .attribute)
+        → v ≡ ofWord (baseOf code) w → r ≡ answered m (m .kept) v
+        → goes r (memoryOf store run) ≡ takeKept sheet index (memoryOf store run) m (q .node) (q .attribute) (findKey store (m .kept) q)
+    unfolding takeKept
+    takes-kept sheet index run r v w code word typed value by = rw (by, found-at _ _ is refl _ at-j, value, typed, word)
+
+-- what is answered keeps the number that it is given
+pub answer-keeps : (store links : List ℕ) (m r : Registers) (v : Value) (kept : ℕ) → r ≡ answered m kept v → Linked store kept links → Linked store (r .kept) links
+answer-keeps store links m r v kept by linked = rw by linked
+
+pub kept-answer-keeps : (sheet index store links run : List ℕ) (m r : Registers) (v : Value) (n a : ℕ) → AttributeReady sheet index store links run m n a
+    → r ≡ answered m (m .kept) v → Linked store (r .kept) links
+kept-answer-keeps sheet index store links run m r v n a ready by = rw by (ready .writes .linked)
+
+-- ---- The limits, in the order of their numbers
+
+-- The node that the word `w` holds, which the code reads in three calls.
+pub node-held : (w held node : ℕ) (v : Value) → node ≡ nodeOf v → v ≡ valueIn held → held ≡ heldNode w → node ≡ nodeOf (valueIn (heldNode w))
+node-held w held node v is unpacked holds = is ∙ ap nodeOf (unpacked ∙ ap valueIn holds)
+
+module _ (w held node : ℕ) (v : Value) (holds : held ≡ heldNode w) (unpacked : v ≡ valueIn held) (is : node ≡ nodeOf v) where
+  node-is : node ≡ nodeOf (valueIn (heldNode w))
+  node-is = node-held w held node v is unpacked holds
+
+  module _ (sheet index : List ℕ) (budget limit : ℕ) (mem : Memory) (m : Registers) where
     abbrev dueNow : Stepped
-    dueNow = attributeDue sheet index attributes budget limit mem m n a
+    dueNow = attributeDue sheet index budget limit mem m (nodeOf (valueIn (heldNode w))) (heldAttribute w)
 
-    pub due-null : n ≡ 65535 → stops 14 ≡ dueNow
+    pub due-null : node ≡ 65535 → stops 14 ≡ dueNow
     unfolding attributeDue
-    due-null is = rw is
+    due-null null = rw (sym node-is, null)
 
-    module _ (no-null : n ≡ 65535 → ⊥) where
+    module _ (no-null : node ≡ 65535 → ⊥) where
       pub due-spent : budget ≤ m .steps → stops 15 ≡ dueNow
       unfolding attributeDue
-      due-spent used = rw (ne-eqb n 65535 no-null, le-leb budget (m .steps) used)
+      due-spent used = rw (sym node-is, ne-eqb node 65535 no-null, le-leb budget (m .steps) used)
 
       module _ (left : m .steps < budget) where
         pub due-deep : 64 ≤ m .forms → stops 16 ≡ dueNow
         unfolding attributeDue
-        due-deep deep = rw (ne-eqb n 65535 no-null, lt-leb budget (m .steps) left, le-leb 64 (m .forms) deep)
+        due-deep deep = rw (sym node-is, ne-eqb node 65535 no-null, lt-leb budget (m .steps) left, le-leb 64 (m .forms) deep)
 
         module _ (few : m .forms < 64) where
           pub due-waits : limit ≤ m .steps → waits ≡ dueNow
           unfolding attributeDue
-          due-waits reached = rw (ne-eqb n 65535 no-null, lt-leb budget (m .steps) left, lt-leb 64 (m .forms) few, le-leb limit (m .steps) reached)
+          due-waits reached =
+              rw (sym node-is, ne-eqb node 65535 no-null, lt-leb budget (m .steps) left, lt-leb 64 (m .forms) few, le-leb limit (m .steps) reached)
 
-          pub due-goes : m .steps < limit → {r : Registers} {mem′ : Memory}
-              → goes r mem′ ≡ takeKept sheet index attributes mem m n a (findKey (mem .store) (m .kept) due) → goes r mem′ ≡ dueNow
-          unfolding attributeDue
-          due-goes before taken = rw (ne-eqb n 65535 no-null, lt-leb budget (m .steps) left, lt-leb 64 (m .forms) few, lt-leb limit (m .steps) before) taken
+-- No limit stops AttrApp, with the node and the attribute that the code read from the word `w`.
+pub record DueStep (sheet index store links run : List ℕ) (budget limit : ℕ) (m : Registers) (w node a : ℕ) : Type 0 where
+  pub node-is : node ≡ nodeOf (valueIn (heldNode w))
+  pub attribute-is : a ≡ heldAttribute w
+  pub no-null : node ≡ 65535 → ⊥
+  pub left : m .steps < budget
+  pub few : m .forms < 64
+  pub before : m .steps < limit
+  pub ready : (nodeOf (valueIn (heldNode w)) ≡ 65535 → ⊥) → m .steps < budget → m .forms < 64
+      → AttributeReady sheet index store links run m (nodeOf (valueIn (heldNode w))) (heldAttribute w)
+
+module _ (sheet index store links run : List ℕ) (budget limit : ℕ) (m : Registers) (w node a : ℕ)
+    (due : DueStep sheet index store links run budget limit m w node a) where
+  pub due-ready : AttributeReady sheet index store links run m node a
+  due-ready =
+      rw (due .node-is, due .attribute-is) (due .ready (λ e. due .no-null (due .node-is ∙ e)) (due .left) (due .few))
+
+  pub due-goes : (word : ℕ) (r : Registers) (mem′ : Memory) → word ≡ toWord (m .value)
+      → goes r mem′
+      ≡ takeKept sheet index (memoryOf store run) m node a (findKey store (m .kept) record { node = node; attribute = a; word = word })
+      → goes r mem′ ≡ attributeDue sheet index budget limit (memoryOf store run) m (nodeOf (valueIn (heldNode w))) (heldAttribute w)
+  unfolding attributeDue
+  due-goes word r mem′ is-word taken =
+      rw (
+        ← (due .node-is),
+        ne-eqb node 65535 (due .no-null),
+        lt-leb budget (m .steps) (due .left),
+        lt-leb 64 (m .forms) (due .few),
+        lt-leb limit (m .steps) (due .before),
+      )
+      (rw (due .attribute-is, is-word) at taken)

@@ -10,8 +10,10 @@ use Rattle.saiga.specs.Ask.{lent, asking, endedAnswer, runQuestion, ask}
 use Rattle.saiga.proofs.Calls.{Passed, passed, ask-runs}
 use Rattle.stores.specs.Keys.{Linked}
 use Rattle.engine.specs.declared.Registers.{Registers}
+use Rattle.engine.specs.Decode.{wordsIn, formsIn}
 use Rattle.engine.specs.Ready.{memoryOf}
 use Rattle.engine.specs.Loop.{Invariant, started, Final}
+use Rattle.engine.proofs.RunMemory.{words-length, forms-length}
 use Rattle.engine.proofs.Loop.{question-short, invariant-start, final-outcome}
 use Rattle.runs.specs.declared.RunEnd.{RunEnd}
 use Rattle.runs.specs.declared.RunEnd.the-variants as End
@@ -21,8 +23,8 @@ use Rattle.calls.specs.declared.Answer.the-variants.{Value, Refusal}
 use Rattle.calls.specs.Answers.{answerOf}
 use Rattle.calls.specs.Askable.{Askable}
 
-module _ {sheet index : List ℕ} {attributes : ℕ} {question store links frames forms : List ℕ} {kept budget : ℕ}
-    (a : Askable sheet index attributes question store links frames forms kept budget) where
+module _ {sheet index question store links memory : List ℕ} {kept budget : ℕ}
+    (a : Askable sheet index question store links memory kept budget) where
   found : Passed sheet (lent store kept) (asking question budget) (a .call)
   found = passed sheet (lent store kept) (asking question budget) (a .accepts)
 
@@ -30,30 +32,31 @@ module _ {sheet index : List ℕ} {attributes : ℕ} {question store links frame
   abbrev whole : Ended
   whole = runQuestion (a .call .sheet) (length store / 12) budget (a .call .entries) (a .call .question)
 
-  begins : Invariant sheet index question attributes budget store kept whole (memoryOf store frames forms) (started question kept unit)
+  begins : Invariant sheet index question budget store kept whole (memoryOf store memory) (started question kept unit)
   begins =
-      invariant-start sheet index question attributes budget store frames forms kept unit (a .call .sheet) (a .call .entries) (a .call .question)
-      (found .sheet-is) (a .index-of) (a .attributes-are) (found .entries-are) (found .question-is) (a .frames-length) (a .forms-length)
+      invariant-start sheet index question budget store (wordsIn memory) (formsIn memory) kept unit (a .call .sheet) (a .call .entries) (a .call .question)
+      (found .sheet-is) (a .index-of) (found .entries-are) (found .question-is) (words-length memory (a .memory-length)) (forms-length memory (a .memory-length))
 
   module _ {first : Registers} (is : first ≡ started question kept unit) where
-    begins-at : Invariant sheet index question attributes budget store kept whole (memoryOf store frames forms) first
+    begins-at : Invariant sheet index question budget store kept whole (memoryOf store memory) first
     begins-at = rw is begins
 
-    pub runs : Running sheet index question attributes budget store links frames forms first
+    pub runs : Running sheet index question budget store links memory first
     runs =
         record {
           lent = store;
           kept = kept;
           whole = whole;
           invariant = begins-at;
+          permitted = found .permitted;
           linked = rw is (a .linked);
           short = question-short (a .call .sheet) question (a .call .question) (found .question-is);
         }
 
     -- what the run's contract says of this call
-    module _ {store′ links′ : List ℕ} (frames′ forms′ : List ℕ) (r : RunEnd)
-        (ran : (lent : List ℕ) (kept : ℕ) (whole : Ended) → Invariant sheet index question attributes budget lent kept whole (memoryOf store frames forms) first
-        → RunsTo sheet index question attributes budget budget lent kept whole (first .steps) (memoryOf store′ frames′ forms′) r)
+    module _ {store′ links′ : List ℕ} (memory′ : List ℕ) (r : RunEnd)
+        (ran : (lent : List ℕ) (kept : ℕ) (whole : Ended) → Invariant sheet index question budget lent kept whole (memoryOf store memory) first
+        → RunsTo sheet index question budget budget lent kept whole (first .steps) (memoryOf store′ memory′) r)
         (linked : Linked store′ (keptBy r) links′) where
       -- the answer and the bytes of the store, and the store's index
       abbrev Brings : Answer → Type 0
@@ -61,7 +64,7 @@ module _ {sheet index : List ℕ} {attributes : ℕ} {question store links frame
           (answerOf answer ≡ ask sheet (lent store kept) (asking question budget) .answer)
           × ((store′ ≡ ask sheet (lent store kept) (asking question budget) .store) × Linked store′ (answerOf answer .kept) links′)
 
-      ended : {ending : Ending} {m : Registers} (answer : Answer) → Final store kept whole ending (memoryOf store′ frames′ forms′) m
+      ended : {ending : Ending} {m : Registers} (answer : Answer) → Final store kept whole ending (memoryOf store′ memory′) m
           → answerOf answer ≡ endedAnswer whole → Linked store′ (answerOf answer .kept) links′ → Brings answer
       ended answer final is-answer index =
           let brings = ask-runs sheet (lent store kept) (asking question budget) (a .accepts) ∙ final-outcome final in

@@ -6,7 +6,7 @@ use Prim.Native.Nat.{ℕ, _*_, _≤_, _<_}
 use native.Mathlib.Omega.{arith}
 use borrow.Author.Tests.{le-leb, lt-leb}
 use lib.Dec.{leb}
-use lib.ListN.{length}
+use lib.ListN.{length, getD}
 use Rattle.saiga.specs.Limits.{budgetLimit}
 use Rattle.saiga.specs.Expressions.{Expr}
 use Rattle.saiga.specs.Sheet.{Sheet, nodeCount, attributeCount, Checked, refused_at-place_, accepted, checkSheet}
@@ -20,10 +20,10 @@ use Rattle.expressions.specs.Forms.{questionOf}
 use Rattle.expressions.proofs.Questions.{question-refused, question-accepted}
 use Rattle.sheets.specs.declared.SheetCheck.{SheetCheck}
 use Rattle.sheets.specs.declared.SheetCheck.the-variants as for-sheet
-use Rattle.sheets.specs.Scan.{checkOf, Checks}
+use Rattle.sheets.specs.Scan.{attributesPlace, nodesPlace, checkOf, Checks}
 use Rattle.stores.specs.declared.StoreCheck.{StoreCheck}
 use Rattle.stores.specs.declared.StoreCheck.the-variants as for-store
-use Rattle.stores.specs.Keys.{storeCheckOf, StoreChecked}
+use Rattle.stores.specs.Keys.{linksSize, storeCheckOf, StoreChecked}
 use Rattle.calls.specs.declared.checks.Verdict.{Verdict}
 use Rattle.calls.specs.declared.checks.Verdict.the-variants.{Refused, Accepted}
 use Rattle.calls.specs.Prepared.{PreparedSheet, PreparedStore}
@@ -167,44 +167,55 @@ module _ {types : List ℕ} {attributes nodes : ℕ} {store : List ℕ} {kept : 
 
 -- ---- The sheet
 
-module _ {sheet index : List ℕ} {attributes nodes : ℕ} (p : PreparedSheet sheet index attributes nodes) where
-  pub sheet-of : SheetOf sheet attributes nodes (p .of)
+-- a prepared sheet of so many attributes and nodes
+pub record SheetWith (sheet index : List ℕ) (attributes nodes : ℕ) : Type 0 where
+  pub prepared : PreparedSheet sheet index
+  pub attributes-are : attributeCount (prepared .of) ≡ attributes
+  pub nodes-are : nodeCount (prepared .of) ≡ nodes
+
+-- as many as its index says
+abbrev pub counted : {sheet index : List ℕ} (p : PreparedSheet sheet index) {attributes nodes : ℕ} → attributes ≡ getD index attributesPlace 0 → nodes ≡ getD index nodesPlace 0
+    → SheetWith sheet index attributes nodes
+counted p a n = record { prepared = p; attributes-are = sym (a ∙ p .index-of .attributes-in); nodes-are = sym (n ∙ p .index-of .nodes-in) }
+
+module _ {sheet index : List ℕ} {attributes nodes : ℕ} (p : SheetWith sheet index attributes nodes) where
+  pub sheet-of : SheetOf sheet attributes nodes (p .prepared .of)
   sheet-of =
       record {
-        attributes-are = p .index-of .attributes-are ∙ ap (attributesIn sheet) (p .attributes-are);
+        attributes-are = p .prepared .index-of .described .attributes-are ∙ ap (attributesIn sheet) (p .attributes-are);
         attributes-count = p .attributes-are;
         nodes-count = p .nodes-are;
       }
 
   pub attributes-fit : 3 * attributes ≤ length sheet
-  attributes-fit = omega (arith, p .attributes-are, p .index-of .room)
+  attributes-fit = omega (arith, p .attributes-are, p .prepared .index-of .described .room)
 
   -- it is the one sheet that these bytes are
-  pub same-sheet : (s : Sheet) → checkSheet sheet ≡ accepted s → p .of ≡ s
-  same-sheet s e = let same : accepted (p .of) ≡ accepted s = sym (p .accepts) ∙ e in cc
+  pub same-sheet : (s : Sheet) → checkSheet sheet ≡ accepted s → p .prepared .of ≡ s
+  same-sheet s e = let same : accepted (p .prepared .of) ≡ accepted s = sym (p .prepared .accepts) ∙ e in cc
 
   -- a store that passed the check is prepared
   pub store-prepared : {store : List ℕ} {kept : ℕ} {links : List ℕ} {r : StoreCheck} → StoreChecked sheet attributes nodes store kept links r → r ≡ for-store.Accepted
       → PreparedStore sheet store kept links
   unfolding storeCheckOf
   store-prepared {store} {kept} {links} {r} checked is =
-      record { passes = λ s e. rw (same-sheet s e) at (go (checkStore (p .of) store kept) answer); linked = checked .linked is }
+      record { passes = λ s e. rw (same-sheet s e) at (go (checkStore (p .prepared .of) store kept) answer); linked = checked .linked is }
     where
-      answer : for-store.Accepted ≡ storeCheckOf (checkStore (p .of) store kept)
-      answer = sym is ∙ checked .answer (p .of) (sheet-of .attributes-are) (p .nodes-are)
+      answer : for-store.Accepted ≡ storeCheckOf (checkStore (p .prepared .of) store kept)
+      answer = sym is ∙ checked .answer (p .prepared .of) (sheet-of .attributes-are) (p .nodes-are)
 
       go : (C : Checked (List Entry)) → for-store.Accepted ≡ storeCheckOf C → (entries : List Entry) × (C ≡ accepted entries)
       go (refused n at-place q) e = other cc
       go (accepted entries) e = (entries, refl)
 
 module _ {sheet index : List ℕ} {r : SheetCheck} (checked : Checks sheet r index) where
-  pub sheet-prepared : {attributes nodes : ℕ} → r ≡ for-sheet.Accepted attributes nodes → PreparedSheet sheet index attributes nodes
+  pub sheet-prepared : {attributes nodes : ℕ} → r ≡ for-sheet.Accepted attributes nodes → SheetWith sheet index attributes nodes
   unfolding checkOf
   sheet-prepared {attributes} {nodes} is = go (checkSheet sheet) refl (checked .checked)
     where
-      go : (C : Checked Sheet) → checkSheet sheet ≡ C → r ≡ checkOf C → PreparedSheet sheet index attributes nodes
+      go : (C : Checked Sheet) → checkSheet sheet ≡ C → r ≡ checkOf C → SheetWith sheet index attributes nodes
       go (refused n at-place p) c e = other cc
-      go (accepted s) c e = record { of = s; accepts = c; index-of = checked .indexes s c; attributes-are = cc; nodes-are = cc }
+      go (accepted s) c e = record { prepared = record { of = s; accepts = c; index-of = checked .indexes s c }; attributes-are = cc; nodes-are = cc }
 
   pub sheet-refused : {number place : ℕ} → r ≡ for-sheet.Refused number place → checkSheet sheet ≡ refused number at-place place
   unfolding checkOf
@@ -215,7 +226,7 @@ module _ {sheet index : List ℕ} {r : SheetCheck} (checked : Checks sheet r ind
       go (accepted s) e = other cc
 
   module _ (m : Lent) (c : Call) {links : List ℕ} where
-    pub sheet-stops : {number place : ℕ} → r ≡ for-sheet.Refused number place → length links ≡ 2048
+    pub sheet-stops : {number place : ℕ} → r ≡ for-sheet.Refused number place → length links ≡ linksSize
         → CallChecked sheet m c index links (Refused number place)
     unfolding verdictOf
     sheet-stops {number} {place} h links-size =
@@ -235,11 +246,11 @@ module _ {sheet index : List ℕ} {r : SheetCheck} (checked : Checks sheet r ind
     sheet-passes h rest =
         let p = sheet-prepared h in
         record {
-          answer = rest .answer (p .of) (sheet-of p) ∙ ap verdictOf (sym (from-sheet sheet m c (p .accepts)));
+          answer = rest .answer (p .prepared .of) (sheet-of p) ∙ ap verdictOf (sym (from-sheet sheet m c (p .prepared .accepts)));
           scratch = record {
             index-length = checked .size;
             indexed = checked .indexes;
             links-length = rest .links-length;
-            linked = λ s e entries f. rest .linked (p .of) (sheet-of p) entries (rw (same-sheet p s e) f);
+            linked = λ s e entries f. rest .linked (p .prepared .of) (sheet-of p) entries (rw (same-sheet p s e) f);
           };
         }

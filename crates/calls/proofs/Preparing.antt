@@ -15,13 +15,14 @@ use Rattle.expressions.specs.declared.QuestionCheck.{QuestionCheck}
 use Rattle.expressions.specs.declared.QuestionCheck.the-variants as for-question
 use Rattle.expressions.specs.Forms.{questionOf}
 use Rattle.stores.specs.Keys.{Linked}
+use Rattle.engine.specs.Decode.{runSize}
 use Rattle.calls.specs.declared.Answer.{Answer}
 use Rattle.calls.specs.declared.checks.Verdict.{Verdict}
 use Rattle.calls.specs.declared.checks.Verdict.the-variants.{Refused, Accepted}
 use Rattle.calls.specs.Answers.{answerOf}
-use Rattle.calls.specs.Prepared.{PreparedSheet, PreparedStore}
+use Rattle.calls.specs.Prepared.{PreparedStore}
 use Rattle.calls.specs.Verdict.{SheetOf, fromBudget, Indexes, CallChecked}
-use Rattle.calls.proofs.CheckLaws.{sheet-of, same-sheet, verdict-refused, verdict-accepted, asked-refused, asked-accepted, from-store, from-sheet}
+use Rattle.calls.proofs.CheckLaws.{SheetWith, sheet-of, same-sheet, verdict-refused, verdict-accepted, asked-refused, asked-accepted, from-store, from-sheet}
 use Rattle.calls.specs.Askable.{Askable, RunScratch}
 
 -- ---- A refusal
@@ -40,14 +41,12 @@ refusal-keeps kept number place r is = ap (λ a. a .kept) is
 
 -- ---- The run's scratch
 
-module _ {checked : Checked AcceptedCall} {frames forms : List ℕ} where
-  pub scratch-as-lent : length frames ≡ 16640 → length forms ≡ 256 → RunScratch checked frames forms frames forms
-  scratch-as-lent l m = record { frames-length = l; forms-length = m; as-lent = λ number place e. (refl, refl) }
+module _ {checked : Checked AcceptedCall} {memory : List ℕ} where
+  pub scratch-as-lent : length memory ≡ runSize → RunScratch checked memory memory
+  scratch-as-lent l = record { memory-length = l; as-lent = λ number place e. refl }
 
-  pub scratch-used : {frames′ forms′ : List ℕ} {c : AcceptedCall} → checked ≡ accepted c → length frames′ ≡ 16640 → length forms′ ≡ 256
-      → RunScratch checked frames forms frames′ forms′
-  scratch-used is l m =
-      record { frames-length = l; forms-length = m; as-lent = λ number place e. absurd (let z : _≡_ {A = ℕ} 0 1 = cc in omega arith) }
+  pub scratch-used : {memory′ : List ℕ} {c : AcceptedCall} → checked ≡ accepted c → length memory′ ≡ runSize → RunScratch checked memory memory′
+  scratch-used is l = record { memory-length = l; as-lent = λ number place e. absurd (let z : _≡_ {A = ℕ} 0 1 = cc in omega arith) }
 
 -- ---- A call of which nothing was checked before
 
@@ -59,19 +58,17 @@ module _ {sheet index question store links : List ℕ} {kept budget : ℕ} {r : 
   pub checked-accepts : {attributes nodes : ℕ} → r ≡ Accepted attributes nodes → (c : AcceptedCall) × (checkCall sheet (lent store kept) (asking question budget) ≡ accepted c)
   checked-accepts is = let (c, accepts, _, _) = verdict-accepted (checkCall sheet (lent store kept) (asking question budget)) (sym (checked .answer) ∙ is) in (c, accepts)
 
-  pub checked-askable : {attributes nodes : ℕ} {frames forms : List ℕ} → r ≡ Accepted attributes nodes → length frames ≡ 16640 → length forms ≡ 256
-      → Askable sheet index attributes question store links frames forms kept budget
-  checked-askable is frames-length forms-length =
-      let (c, accepts, count, _) = verdict-accepted (checkCall sheet (lent store kept) (asking question budget)) (sym (checked .answer) ∙ is) in
+  pub checked-askable : {attributes nodes : ℕ} {memory : List ℕ} → r ≡ Accepted attributes nodes → length memory ≡ runSize
+      → Askable sheet index question store links memory kept budget
+  checked-askable is memory-length =
+      let (c, accepts, _, _) = verdict-accepted (checkCall sheet (lent store kept) (asking question budget)) (sym (checked .answer) ∙ is) in
       let found = passed sheet (lent store kept) (asking question budget) accepts in
       record {
         call = c;
         accepts = accepts;
         index-of = checked .scratch .indexed (c .sheet) (found .sheet-is);
-        attributes-are = count;
         linked = checked .scratch .linked (c .sheet) (found .sheet-is) (c .entries) (found .entries-are);
-        frames-length = frames-length;
-        forms-length = forms-length;
+        memory-length = memory-length;
       }
 
 -- the indexes after a run, whose store is linked
@@ -86,42 +83,40 @@ indexes-after before linked =
 
 -- ---- A call of a checked sheet and a checked store
 
-module _ {sheet index : List ℕ} {attributes nodes : ℕ} (p : PreparedSheet sheet index attributes nodes)
+module _ {sheet index : List ℕ} {attributes nodes : ℕ} (p : SheetWith sheet index attributes nodes)
     {store : List ℕ} {kept : ℕ} {links : List ℕ} (q : PreparedStore sheet store kept links) (question : List ℕ) (budget : ℕ) where
   abbrev entries : List Entry
-  entries = q .passes (p .of) (p .accepts) .0
+  entries = q .passes (p .prepared .of) (p .prepared .accepts) .0
 
-  passes : checkStore (p .of) store kept ≡ accepted entries
-  passes = q .passes (p .of) (p .accepts) .1
+  passes : checkStore (p .prepared .of) store kept ≡ accepted entries
+  passes = q .passes (p .prepared .of) (p .prepared .accepts) .1
 
-  chain : checkCall sheet (lent store kept) (asking question budget) ≡ (fromBudget (p .of) (asking question budget) then-check λ e. accepted record { sheet = p .of; entries = entries; question = e })
-  chain = from-sheet sheet (lent store kept) (asking question budget) (p .accepts) ∙ from-store (p .of) (lent store kept) (asking question budget) passes
+  chain : checkCall sheet (lent store kept) (asking question budget) ≡ (fromBudget (p .prepared .of) (asking question budget) then-check λ e. accepted record { sheet = p .prepared .of; entries = entries; question = e })
+  chain = from-sheet sheet (lent store kept) (asking question budget) (p .prepared .accepts) ∙ from-store (p .prepared .of) (lent store kept) (asking question budget) passes
 
   module _ {r : QuestionCheck}
       (checked : (s : Sheet) → SheetOf sheet attributes nodes s → r ≡ questionOf (s .attributes) (fromBudget s (asking question budget))) where
     pub question-refused : {number : ℕ} → r ≡ for-question.Refused number → checkCall sheet (lent store kept) (asking question budget) ≡ refused number at-place 0
     unfolding _then-check_
-    question-refused is = chain ∙ rw (asked-refused (asking question budget) checked (p .of) (sheet-of p) is)
+    question-refused is = chain ∙ rw (asked-refused (asking question budget) checked (p .prepared .of) (sheet-of p) is)
 
     pub question-accepts : {code : ℕ} → r ≡ for-question.Accepted code
-        → (e : Expr) × (checkCall sheet (lent store kept) (asking question budget) ≡ accepted record { sheet = p .of; entries = entries; question = e })
+        → (e : Expr) × (checkCall sheet (lent store kept) (asking question budget) ≡ accepted record { sheet = p .prepared .of; entries = entries; question = e })
     unfolding _then-check_
     question-accepts is =
-        let (e, asks) = asked-accepted (asking question budget) checked (p .of) (sheet-of p) is in
+        let (e, asks) = asked-accepted (asking question budget) checked (p .prepared .of) (sheet-of p) is in
         (e, chain ∙ rw asks)
 
-    pub askable : {frames forms : List ℕ} {code : ℕ} → r ≡ for-question.Accepted code → length frames ≡ 16640 → length forms ≡ 256
-        → Askable sheet index attributes question store links frames forms kept budget
-    askable is frames-length forms-length =
+    pub askable : {memory : List ℕ} {code : ℕ} → r ≡ for-question.Accepted code → length memory ≡ runSize
+        → Askable sheet index question store links memory kept budget
+    askable is memory-length =
         let (e, accepts) = question-accepts is in
         record {
-          call = record { sheet = p .of; entries = entries; question = e };
+          call = record { sheet = p .prepared .of; entries = entries; question = e };
           accepts = accepts;
-          index-of = p .index-of;
-          attributes-are = p .attributes-are;
+          index-of = p .prepared .index-of;
           linked = q .linked;
-          frames-length = frames-length;
-          forms-length = forms-length;
+          memory-length = memory-length;
         }
 
   -- What a call leaves is prepared for the next.
@@ -130,6 +125,6 @@ module _ {sheet index : List ℕ} {attributes nodes : ℕ} (p : PreparedSheet sh
       → PreparedStore sheet store′ (answerOf answer .kept) links′
   unfolding leaves
   prepared-again {store′} answer is left linked =
-      let after : (entries : List Entry) × (checkStore (p .of) store′ (answerOf answer .kept) ≡ accepted entries) =
-      rw (left, is) (left-store-passes sheet (p .of) (p .accepts) (lent store kept) entries passes (asking question budget)) in
+      let after : (entries : List Entry) × (checkStore (p .prepared .of) store′ (answerOf answer .kept) ≡ accepted entries) =
+      rw (left, is) (left-store-passes sheet (p .prepared .of) (p .prepared .accepts) (lent store kept) entries passes (asking question budget)) in
       record { passes = λ s e. rw (same-sheet p s e) at after; linked = linked }

@@ -2,18 +2,16 @@
 use mathlib.Core.List.{List}
 use mathlib.Core.Path.{_≡_}
 use Prim.Native.Nat.{ℕ}
-use Rattle.saiga.specs.Sheet.{Sheet, nodeCount, attributeCount, accepted, checkSheet}
+use Rattle.saiga.specs.Sheet.{Sheet, accepted, checkSheet}
 use Rattle.saiga.specs.Caching.{Entry}
 use Rattle.saiga.specs.Store.{checkStore}
 use Rattle.sheets.specs.Scan.{Indexed}
 use Rattle.stores.specs.Keys.{Linked}
 
-pub record PreparedSheet (sheet index : List ℕ) (attributes nodes : ℕ) : Type 0 where
+pub record PreparedSheet (sheet index : List ℕ) : Type 0 where
   pub of : Sheet
   pub accepts : checkSheet sheet ≡ accepted of
   pub index-of : Indexed sheet of index
-  pub attributes-are : attributeCount of ≡ attributes
-  pub nodes-are : nodeCount of ≡ nodes
 
 pub record PreparedStore (sheet store : List ℕ) (kept : ℕ) (links : List ℕ) : Type 0 where
   pub passes : (s : Sheet) → checkSheet sheet ≡ accepted s → (entries : List Entry) × (checkStore s store kept ≡ accepted entries)

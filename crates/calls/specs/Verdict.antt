@@ -9,8 +9,8 @@ use Rattle.saiga.specs.Caching.{Entry}
 use Rattle.saiga.specs.Store.{checkStore}
 use Rattle.saiga.specs.Ask.{Lent, Call, _then-check_, checkBudget, checkQuestion, AcceptedCall, checkCall}
 use Rattle.values.specs.Layout.{attributesIn}
-use Rattle.sheets.specs.Scan.{Indexed}
-use Rattle.stores.specs.Keys.{Linked}
+use Rattle.sheets.specs.Scan.{indexSize, Indexed}
+use Rattle.stores.specs.Keys.{linksSize, Linked}
 use Rattle.calls.specs.declared.checks.Verdict.{Verdict}
 use Rattle.calls.specs.declared.checks.Verdict.the-variants.{Refused, Accepted}
 
@@ -41,7 +41,7 @@ fromStore s m c =
 
 pub record FromStore (types : List ℕ) (attributes nodes : ℕ) (m : Lent) (c : Call) (links : List ℕ) (r : Verdict) : Type 0 where
   pub answer : (s : Sheet) → SheetOf types attributes nodes s → r ≡ verdictOf (fromStore s m c)
-  pub links-length : length links ≡ 2048
+  pub links-length : length links ≡ linksSize
   pub linked : (s : Sheet) → SheetOf types attributes nodes s → (entries : List Entry) → checkStore s (m .store) (m .kept) ≡ accepted entries
       → Linked (m .store) (m .kept) links
 
@@ -50,9 +50,9 @@ pub record FromStore (types : List ℕ) (attributes nodes : ℕ) (m : Lent) (c :
 -- The two indexes as a check leaves them. Their lengths stay. Where the sheet is refused, both are free; where the sheet is accepted and the store
 -- is refused, the links are.
 pub record Indexes (sheet store : List ℕ) (kept : ℕ) (index links : List ℕ) : Type 0 where
-  pub index-length : length index ≡ 33280
+  pub index-length : length index ≡ indexSize
   pub indexed : (s : Sheet) → checkSheet sheet ≡ accepted s → Indexed sheet s index
-  pub links-length : length links ≡ 2048
+  pub links-length : length links ≡ linksSize
   pub linked : (s : Sheet) → checkSheet sheet ≡ accepted s → (entries : List Entry) → checkStore s store kept ≡ accepted entries → Linked store kept links
 
 pub record CallChecked (sheet : List ℕ) (m : Lent) (c : Call) (index links : List ℕ) (r : Verdict) : Type 0 where

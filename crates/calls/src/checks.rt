@@ -2,6 +2,8 @@
 use expressions::QuestionCheck;
 use saiga::limits::BUDGET_LIMIT;
 use sheets::SheetCheck;
+use sheets::lookup::INDEX_SIZE;
+use stores::LINKS_SIZE;
 use stores::StoreCheck;
 ghost use mathlib.Core.Path.{_≡_};
 ghost use Prim.Native.Nat.{_*_, _≤_};
@@ -9,6 +11,7 @@ ghost use lib.ListN.{length};
 ghost use Rattle.saiga.specs.Sheet.{Sheet};
 ghost use Rattle.saiga.specs.Ask.{lent, asking};
 ghost use Rattle.calls.specs.Verdict.{SheetOf, fromBudget, FromStore, CallChecked};
+ghost use Rattle.stores.specs.Keys.{linksSize};
 ghost use Rattle.expressions.specs.Forms.{questionOf};
 
 // The number and place of the first stop of 1 to 13, or the numbers of attributes and nodes of an accepted sheet.
@@ -45,7 +48,7 @@ fn check_from_store(
     budget: usize,
     links: &mut [u32],
 ) -> Verdict
-    requires { ⌜ (3 * attributes ≤ length (now sheet)) × (length (now links) ≡ 2048) ⌝ }
+    requires { ⌜ (3 * attributes ≤ length (now sheet)) × (length (now links) ≡ linksSize) ⌝ }
     ensures { λ r. ⌜ FromStore (now (sheet .entry)) attributes nodes (lent (now (store .entry)) kept) (asking (now (question .entry)) budget) (now (links .exit)) r ⌝ }
 {
     match stores::check(sheet, attributes, nodes, store, kept, links) {
@@ -64,8 +67,8 @@ pub fn check(
     store: &[u8],
     kept: usize,
     budget: usize,
-    index: &mut [u32; 33280],
-    links: &mut [u32; 2048],
+    index: &mut [u32; INDEX_SIZE],
+    links: &mut [u32; LINKS_SIZE],
 ) -> Verdict
     ensures { λ r. ⌜ CallChecked (now (sheet .entry)) (lent (now (store .entry)) kept) (asking (now (question .entry)) budget) (now (index .exit)) (now (links .exit)) r ⌝ }
 {

@@ -3,10 +3,14 @@
 pub mod checks;
 
 use checks::Verdict;
+use engine::Limits;
+use engine::RUN_SIZE;
 use engine::Registers;
 use expressions::QuestionCheck;
 use runs::RunEnd;
 use saiga::Value;
+use sheets::lookup::INDEX_SIZE;
+use stores::LINKS_SIZE;
 ghost use mathlib.Core.List.{[]};
 ghost use mathlib.Core.Path.{_≡_};
 ghost use Rattle.saiga.specs.declared.Value.the-variants.{Unit as unit};
@@ -51,34 +55,24 @@ fn begin(question: &[u8], kept: usize) -> Registers
 fn put<'a>(
     sheet: &'a [u8],
     index: &[u32],
-    attributes: usize,
     question: &'a [u8],
     store: &mut [u8],
     links: &mut [u32],
-    frames: &mut [u64],
-    forms: &mut [u32],
+    memory: &mut [u64],
     kept: usize,
     budget: usize,
 ) -> Answer
-    requires { ⌜ Askable (now sheet) (now index) attributes (now question) (now store) (now links) (now frames) (now forms) kept budget ⌝ }
+    requires { ⌜ Askable (now sheet) (now index) (now question) (now store) (now links) (now memory) kept budget ⌝ }
     ensures { λ r. ⌜ answerOf r ≡ called (now (sheet .entry)) (lent (now (store .entry)) kept) (asking (now (question .entry)) budget) .answer ⌝ }
     ensures { λ _. ⌜ now (store .exit) ≡ called (now (sheet .entry)) (lent (now (store .entry)) kept) (asking (now (question .entry)) budget) .store ⌝ }
     ensures { λ r. ⌜ Linked (now (store .exit)) (answerOf r .kept) (now (links .exit)) ⌝ }
 {
     let first = begin(question, kept);
-    match runs::run(
-        sheet,
-        index,
-        attributes,
-        question,
-        store,
-        links,
-        frames,
-        forms,
+    let limits = Limits {
         budget,
-        budget,
-        first,
-    ) {
+        pause: budget,
+    };
+    match runs::run(sheet, index, question, store, links, memory, limits, first) {
         RunEnd::Finishes(m) => {
             let value = m.value;
             Answer::Value(value, m.steps, m.kept)
@@ -89,81 +83,63 @@ fn put<'a>(
     }
 }
 
-// A question to a sheet that was accepted and indexed, with so many attributes and nodes, and to a store that was checked and indexed: what
-// `ask` answers, at the cost of the question's own check and its steps. The store is indexed afterwards with the kept number of the answer.
+// A question to a sheet that was accepted and indexed, and to a store that was checked and indexed: what `ask` answers, at the cost of the question's own check and its steps. The store is indexed afterwards with the kept number of the answer.
 pub fn ask_checked<'a>(
     sheet: &'a [u8],
     index: &[u32],
-    attributes: usize,
-    nodes: usize,
     question: &'a [u8],
     store: &mut [u8],
     kept: usize,
     budget: usize,
     links: &mut [u32],
-    frames: &mut [u64; 16640],
-    forms: &mut [u32; 256],
+    memory: &mut [u64; RUN_SIZE],
 ) -> Answer
-    requires { ⌜ PreparedSheet (now sheet) (now index) attributes nodes ⌝ }
+    requires { ⌜ PreparedSheet (now sheet) (now index) ⌝ }
     requires { ⌜ PreparedStore (now sheet) (now store) kept (now links) ⌝ }
     ensures { λ r. ⌜ answerOf r ≡ called (now (sheet .entry)) (lent (now (store .entry)) kept) (asking (now (question .entry)) budget) .answer ⌝ }
     ensures { λ _. ⌜ now (store .exit) ≡ called (now (sheet .entry)) (lent (now (store .entry)) kept) (asking (now (question .entry)) budget) .store ⌝ }
     ensures { λ r. ⌜ PreparedStore (now (sheet .entry)) (now (store .exit)) (answerOf r .kept) (now (links .exit)) ⌝ }
     ensures { λ _. ⌜ RunScratch (checkCall (now (sheet .entry)) (lent (now (store .entry)) kept) (asking (now (question .entry)) budget))
-        (now (frames .entry)) (now (forms .entry)) (now (frames .exit)) (now (forms .exit)) ⌝ }
+        (now (memory .entry)) (now (memory .exit)) ⌝ }
 {
-    let words: &mut [u64] = frames;
-    let marks: &mut [u32] = forms;
+    let words: &mut [u64] = memory;
+    let attributes = sheets::lookup::attribute_count(index);
+    let nodes = sheets::lookup::node_count(index);
     match checks::check_question(sheet, attributes, nodes, question, budget) {
         QuestionCheck::Refused(number) => refuse(number, 0, kept),
         QuestionCheck::Accepted(_) => put(
             sheet,
             index,
-            attributes,
             question,
             store,
             links,
             words,
-            marks,
             kept,
             budget,
         ),
     }
 }
 
-// A question call: the checks, and then the run. `index`, `links`, `frames` and `forms` are scratch, of which nothing is asked.
+// A question call: the checks, and then the run. `index`, `links` and `memory` are scratch, of which nothing is asked.
 pub fn ask<'a>(
     sheet: &'a [u8],
     question: &'a [u8],
     store: &mut [u8],
     kept: usize,
     budget: usize,
-    index: &mut [u32; 33280],
-    links: &mut [u32; 2048],
-    frames: &mut [u64; 16640],
-    forms: &mut [u32; 256],
+    index: &mut [u32; INDEX_SIZE],
+    links: &mut [u32; LINKS_SIZE],
+    memory: &mut [u64; RUN_SIZE],
 ) -> Answer
     ensures { λ r. ⌜ answerOf r ≡ called (now (sheet .entry)) (lent (now (store .entry)) kept) (asking (now (question .entry)) budget) .answer ⌝ }
     ensures { λ _. ⌜ now (store .exit) ≡ called (now (sheet .entry)) (lent (now (store .entry)) kept) (asking (now (question .entry)) budget) .store ⌝ }
     ensures { λ r. ⌜ Indexes (now (sheet .entry)) (now (store .exit)) (answerOf r .kept) (now (index .exit)) (now (links .exit)) ⌝ }
     ensures { λ _. ⌜ RunScratch (checkCall (now (sheet .entry)) (lent (now (store .entry)) kept) (asking (now (question .entry)) budget))
-        (now (frames .entry)) (now (forms .entry)) (now (frames .exit)) (now (forms .exit)) ⌝ }
+        (now (memory .entry)) (now (memory .exit)) ⌝ }
 {
-    let words: &mut [u64] = frames;
-    let marks: &mut [u32] = forms;
+    let words: &mut [u64] = memory;
     match checks::check(sheet, question, store, kept, budget, index, links) {
         Verdict::Refused(number, place) => refuse(number, place, kept),
-        Verdict::Accepted(attributes, _) => put(
-            sheet,
-            index,
-            attributes,
-            question,
-            store,
-            links,
-            words,
-            marks,
-            kept,
-            budget,
-        ),
+        Verdict::Accepted(_, _) => put(sheet, index, question, store, links, words, kept, budget),
     }
 }

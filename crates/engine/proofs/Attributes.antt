@@ -25,15 +25,17 @@ use Rattle.saiga.specs.Sound.{IsA, ValueIn, OccurrenceIn, RunningIn, val∈, co
 use Rattle.saiga.proofs.FourBytes.{word-in}
 use Rattle.saiga.proofs.Accepted.{pair-defined}
 use Rattle.saiga.proofs.Preservation.{declared, either}
-use Rattle.sheets.specs.Scan.{figurePlace, figureAt, pieceAt, indexed}
-use Rattle.sheets.proofs.Indexed.{attributeIn, attribute-by-index, kind-by-index, definition-by-index}
+use Rattle.sheets.specs.Scan.{figurePlace, figureAt, pieceAt, indexed, ruleNumber}
+use Rattle.sheets.proofs.Indexed.{attribute-by-index, kind-by-index, definition-by-index}
+use Rattle.values.proofs.Declared.{attributeIn}
 use Rattle.stores.specs.Keys.{findKey}
 use Rattle.engine.specs.RunningPiece.{pieceIn, restOf}
 use Rattle.values.specs.Packed.{valueIn}
 use Rattle.engine.specs.Machine.{Frame, on-if, on-left, on-skip, on-right, on-node, on-parameter, on-form, returning, Machine, openForms, plug, termOf, stateOf, moves, takes, counted, defined, applied, give, moveOf, move}
 use Rattle.engine.specs.Machine as Machine
+use Rattle.engine.specs.FrameWords.{kindOf, ifKind, leftKind, skipKind, rightKind, nodeKind, parameterKind, formKind, heldAttribute, heldNode}
 use Rattle.engine.specs.Decode.{sheetOf, entriesOf, plainFrame, formOccurrence, formRest, framesIn, modeOf, machineOf, Placed}
-use Rattle.engine.specs.Steps.{Memory, Stepped, goes, answered, cacheWrite, closeForm, ruleIndex, openRule, openFigure, takeKept, attributeDue}
+use Rattle.engine.specs.Steps.{Memory, Stepped, goes, answered, cacheWrite, closeForm, openRule, openFigure, takeKept, attributeDue}
 use Rattle.engine.specs.declared.Registers.{Registers}
 use Rattle.engine.proofs.Bounds.{frames-fit}
 use Rattle.engine.specs.Machine.{Next, by-move, by-step}
@@ -80,11 +82,11 @@ module _ {nodes : ℕ} {sig : List Attribute} where
 plain-open : (w : ℕ) (fs : List Frame) → openForms (plainFrame w ∷ fs) ≡ openForms fs
 unfolding plainFrame openForms
 plain-open w fs =
-    either P (eqb (w % 8) 0) (λ _. refl)
-    (λ _. either P (eqb (w % 8) 1) (λ _. refl)
-    (λ _. either P (eqb (w % 8) 2) (λ _. refl)
-    (λ _. either P (eqb (w % 8) 3) (λ _. refl)
-    (λ _. either P (eqb (w % 8) 4) (λ _. refl) (λ _. refl)))))
+    either P (eqb (kindOf w) ifKind) (λ _. refl)
+    (λ _. either P (eqb (kindOf w) leftKind) (λ _. refl)
+    (λ _. either P (eqb (kindOf w) skipKind) (λ _. refl)
+    (λ _. either P (eqb (kindOf w) rightKind) (λ _. refl)
+    (λ _. either P (eqb (kindOf w) nodeKind) (λ _. refl) (λ _. refl)))))
   where
     P : Frame → Type 0
     P f = openForms (f ∷ fs) ≡ openForms fs
@@ -106,7 +108,7 @@ module _ (sheet question forms forms′ : List ℕ) (k : ℕ) (same : (i : ℕ) 
 module _ (sheet question words forms : List ℕ) where
   -- the innermost of some frames
   innermost-frame : (n k : ℕ) → 0 < n → framesIn sheet question words forms n k
-      ≡ Bool.cond (eqb (getD words (n - 1) 0 % 8) 6)
+      ≡ Bool.cond (eqb (kindOf (getD words (n - 1) 0)) formKind)
       (on-form (formOccurrence sheet forms (k - 1)) (formRest sheet question forms (k - 1)) ∷ framesIn sheet question words forms (n - 1) (k - 1))
       (plainFrame (getD words (n - 1) 0) ∷ framesIn sheet question words forms (n - 1) k)
   unfolding framesIn
@@ -120,9 +122,9 @@ module _ (sheet question words forms : List ℕ) where
   unfolding framesIn openForms
   frames-same words′ forms′ zero k counted same-words same-forms = refl
   frames-same words′ forms′ (suc n) k counted same-words same-forms =
-      go (eqb (getD words n 0 % 8) 6) refl (λ j c f. frames-same words′ forms′ n j c (λ i h. same-words i (omega arith)) f)
+      go (eqb (kindOf (getD words n 0)) formKind) refl (λ j c f. frames-same words′ forms′ n j c (λ i h. same-words i (omega arith)) f)
     where
-      go : (b : Bool) → eqb (getD words n 0 % 8) 6 ≡ b
+      go : (b : Bool) → eqb (kindOf (getD words n 0)) formKind ≡ b
           → ((j : ℕ) → length (openForms (framesIn sheet question words forms n j)) ≡ j → ((i : ℕ) → i < 4 * j → getD forms′ i 0 ≡ getD forms i 0)
           → framesIn sheet question words′ forms′ n j ≡ framesIn sheet question words forms n j)
           → framesIn sheet question words′ forms′ (suc n) k ≡ framesIn sheet question words forms (suc n) k
@@ -222,7 +224,7 @@ unfolding move moveOf
 move-gives s capacity budget M v fs e f = rw (e, f)
 
 -- A value is given to the innermost frame.
-module _ {sheet index question : List ℕ} {attributes : ℕ} {mem : Memory} {m : Registers} (r : Represents sheet index question attributes mem m)
+module _ {sheet index question : List ℕ} {mem : Memory} {m : Registers} (r : Represents sheet index question mem m)
     (returns : m .returning ≡ true) (framed : 0 < m .frames)
     (by-key : (store : List ℕ) (k : ℕ) (entries : List Entry) → checkStore (sheetOf sheet) store k ≡ accepted entries → ByKey (sheetOf sheet) store k entries) where
   abbrev s : Sheet
@@ -256,10 +258,10 @@ module _ {sheet index question : List ℕ} {attributes : ℕ} {mem : Memory} {m 
   write-at : (o : Occurrence) (v : Value) → OccurrenceIn (nodeCount s) (s .attributes) o → IsA (nodeCount s) (attributeAt (s .attributes) (o .attribute) .result) v
       → Written s (mem .store) (write (length (mem .store) / 12) entries record { occurrence = o; value = v }) (cacheWrite (mem .store) (m .kept) (keyOf o) (toWord v))
   write-at o v o-in v-in =
-      cache-write s (r .index-of .nodes-bound) (mem .store) (m .kept) entries (r .holds .stored) (by-key _ _ _ (r .holds .stored)) o v o-in v-in
+      cache-write s (r .index-of .described .nodes-bound) (mem .store) (m .kept) entries (r .holds .stored) (by-key _ _ _ (r .holds .stored)) o v o-in v-in
 
   -- CacheWrite
-  module _ (is-form : word % 8 ≡ 6) where
+  module _ (is-form : kindOf word ≡ formKind) where
     abbrev k : ℕ
     k = m .forms - 1
 
@@ -267,7 +269,7 @@ module _ {sheet index question : List ℕ} {attributes : ℕ} {mem : Memory} {m 
     o = formOccurrence sheet (mem .forms) k
 
     form-frames : framesIn sheet question (mem .words) (mem .forms) (m .frames) (m .forms) ≡ on-form o (formRest sheet question (mem .forms) k) ∷ below k
-    form-frames = innermost-frame sheet question (mem .words) (mem .forms) (m .frames) (m .forms) framed ∙ rw (eq-eqb (word % 8) 6 is-form)
+    form-frames = innermost-frame sheet question (mem .words) (mem .forms) (m .frames) (m .forms) framed ∙ rw (eq-eqb (kindOf word) formKind is-form)
 
     pub form-counted : suc (length (openForms (below k))) ≡ m .forms
     unfolding openForms
@@ -330,12 +332,12 @@ module _ {sheet index question : List ℕ} {attributes : ℕ} {mem : Memory} {m 
         closes capacity budget limit room _ (rw form-key at (write-at o (m .value) (form-typed .0) (form-typed .1)))
 
   -- AttrApp: the frame has the node and the attribute's number
-  module _ (late : 5 ≤ word % 8) (no-form : word % 8 ≡ 6 → ⊥) where
+  module _ (late : parameterKind ≤ kindOf word) (no-form : kindOf word ≡ formKind → ⊥) where
     abbrev held : Value
-    held = valueIn (word / 256 % 68719476736)
+    held = valueIn (heldNode word)
 
     abbrev a : ℕ
-    a = word / 8 % 32
+    a = heldAttribute word
 
     abbrev due : Occurrence
     due = record { node = nodeOf held; attribute = a; parameter = m .value }
@@ -347,7 +349,7 @@ module _ {sheet index question : List ℕ} {attributes : ℕ} {mem : Memory} {m 
     unfolding plainFrame
     parameter-frames =
         innermost-frame sheet question (mem .words) (mem .forms) (m .frames) (m .forms) framed
-        ∙ rw (ne-eqb (word % 8) 6 no-form, ne-eqb (word % 8) 0 (omega arith), ne-eqb (word % 8) 1 (omega arith), ne-eqb (word % 8) 2 (omega arith), ne-eqb (word % 8) 3 (omega arith), ne-eqb (word % 8) 4 (omega arith))
+        ∙ rw (ne-eqb (kindOf word) formKind no-form, ne-eqb (kindOf word) ifKind (omega arith), ne-eqb (kindOf word) leftKind (omega arith), ne-eqb (kindOf word) skipKind (omega arith), ne-eqb (kindOf word) rightKind (omega arith), ne-eqb (kindOf word) nodeKind (omega arith))
 
     under-counted : length (openForms under) ≡ m .forms
     unfolding openForms
@@ -399,7 +401,7 @@ module _ {sheet index question : List ℕ} {attributes : ℕ} {mem : Memory} {m 
             )
 
         pub attribute-is : attributeAt (s .attributes) a ≡ attributeIn sheet a
-        attribute-is = attribute-by-index sheet s index (r .index-of) a (parameter-typed .0)
+        attribute-is = attribute-by-index sheet s index (r .index-of .described) a (parameter-typed .0)
 
         by-definition : kept entries due ≡ none → (d : Definition) → definition s (nodeOf held) a ≡ d
             → applied s capacity budget M due under (kept entries due) ≡ defined s capacity budget M due under d
@@ -407,8 +409,8 @@ module _ {sheet index question : List ℕ} {attributes : ℕ} {mem : Memory} {m 
         by-definition absent d e = rw (absent, e)
 
         pub definition-at : definition s (nodeOf held) a
-            ≡ figured (indexed (getD index (figurePlace (nodeOf held) a) 0) (figureAt sheet a)) (ruled (indexed (ruleIndex sheet index attributes (nodeOf held) a) (pieceAt sheet)))
-        definition-at = rw (r .attributes-are) at (definition-by-index sheet s index (r .index-of) (nodeOf held) a (due-in .node-declared) (due-in .attribute-declared))
+            ≡ figured (indexed (getD index (figurePlace (nodeOf held) a) 0) (figureAt sheet a)) (ruled (indexed (ruleNumber sheet index (nodeOf held) a) (pieceAt sheet)))
+        definition-at = rw (← (r .index-of .attributes-in)) at (definition-by-index sheet s index (r .index-of .described) (nodeOf held) a (due-in .node-declared) (due-in .attribute-declared))
 
         parameter-is : ofWord (baseOf (getD sheet (3 * a + 2) 0)) (toWord (m .value)) ≡ m .value
         parameter-is = rw attribute-is at (parameter-typed .2 .round-trip)
@@ -464,16 +466,16 @@ module _ {sheet index question : List ℕ} {attributes : ℕ} {mem : Memory} {m 
             )
 
         -- a rule, of which an accepted sheet has one where it has no figure
-        opens : kept entries due ≡ none → getD index (figurePlace (nodeOf held) a) 0 ≡ 0 → (i : ℕ) → ruleIndex sheet index attributes (nodeOf held) a ≡ i
-            → Matches sheet question capacity budget limit m M (openRule sheet index attributes mem m (nodeOf held) a (toWord (m .value)))
+        opens : kept entries due ≡ none → getD index (figurePlace (nodeOf held) a) 0 ≡ 0 → (i : ℕ) → ruleNumber sheet index (nodeOf held) a ≡ i
+            → Matches sheet question capacity budget limit m M (openRule sheet index mem m (nodeOf held) a (toWord (m .value)))
         unfolding openRule indexed figured ruled isDefined pieceIn restOf pieceAt
         opens absent no-figure zero e =
             absurd (false≢true (rw (definition-at, no-figure, e) at (pair-defined sheet s (r .accepts) (nodeOf held) a (due-in .node-declared) (due-in .attribute-declared))))
         opens absent no-figure (suc at) e =
             let p = due-in .node-declared in
             let q = due-in .attribute-declared in
-            let kind = kind-by-index sheet s index (r .index-of) (nodeOf held) p in
-            let fits = r .index-of .rule-fits _ a at (r .index-of .kinds-bound (nodeOf held) p) q (rw (kind, r .attributes-are) e) in
+            let kind = kind-by-index sheet s index (r .index-of .described) (nodeOf held) p in
+            let fits = r .index-of .described .rule-fits _ a at (r .index-of .described .kinds-bound (nodeOf held) p) q (rw (kind, ← (r .index-of .attributes-in)) e) in
             let length-at : suc at + 2 ≡ at + 3 = omega arith in
             let piece-at : suc at + 4 ≡ at + 5 = omega arith in
             let width : at + 5 + ofBytes (take 2 (drop (at + 3) sheet)) - (at + 5) ≡ ofBytes (take 2 (drop (at + 3) sheet)) = omega arith in
@@ -483,11 +485,11 @@ module _ {sheet index question : List ℕ} {attributes : ℕ} {mem : Memory} {m 
             → IsA (nodeCount s) (attributeAt (s .attributes) a .result) (figureAt sheet a at)
         unfolding figureAt
         figure-in at e =
-            rw attribute-is (word-in _ _ _ (r .index-of .figure-fits (nodeOf held) a at (due-in .node-declared) (due-in .attribute-declared) e .1))
+            rw attribute-is (word-in _ _ _ (r .index-of .described .figure-fits (nodeOf held) a at (due-in .node-declared) (due-in .attribute-declared) e .1))
 
         figures : kept entries due ≡ none → (i : ℕ) → getD index (figurePlace (nodeOf held) a) 0 ≡ i
             → Matches sheet question capacity budget limit m M
-            (openFigure sheet index attributes mem m (nodeOf held) a (toWord (m .value)) (indexed i (figureAt sheet a)))
+            (openFigure sheet index mem m (nodeOf held) a (toWord (m .value)) (indexed i (figureAt sheet a)))
         unfolding openFigure indexed figured defined
         figures absent zero e = opens absent e _ refl
         figures absent (suc at) e =
@@ -495,7 +497,7 @@ module _ {sheet index question : List ℕ} {attributes : ℕ} {mem : Memory} {m 
             (by-definition absent (figure (figureAt sheet a at)) (definition-at ∙ rw e) ∙ same-machine refl refl refl (rw (entries-are, ← room)) refl)
 
         takes-kept : (f : Option ℕ) → findKey (mem .store) (m .kept) (keyOf due) ≡ f
-            → Matches sheet question capacity budget limit m M (takeKept sheet index attributes mem m (nodeOf held) a f)
+            → Matches sheet question capacity budget limit m M (takeKept sheet index mem m (nodeOf held) a f)
         unfolding takeKept applied
         takes-kept none e = figures (by-key _ _ _ (r .holds .stored) .missing due due-in e) _ refl
         takes-kept (some j) e =
@@ -503,7 +505,7 @@ module _ {sheet index question : List ℕ} {attributes : ℕ} {mem : Memory} {m 
             answers _ entries (mem .store, m .kept) (record { passes = r .holds .stored; same-length = refl })
             (ap (applied s capacity budget M due under) found ∙ same-machine refl refl refl entries-are refl)
 
-      pub attribute-matches : Matches sheet question capacity budget limit m M (attributeDue sheet index attributes budget limit mem m (nodeOf held) a)
+      pub attribute-matches : Matches sheet question capacity budget limit m M (attributeDue sheet index budget limit mem m (nodeOf held) a)
       unfolding attributeDue machineOf Machine.attributeDue reasonNumber
       attribute-matches =
           either P (eqb (nodeOf held) null) (λ null. (null-node, at-frame ∙ rw null, refl))

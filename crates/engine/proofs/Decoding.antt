@@ -15,6 +15,7 @@ use Rattle.saiga.proofs.Preservation.{either}
 use Rattle.engine.specs.RunningPiece.{pieceIn, restOf}
 use Rattle.values.specs.Packed.{valueIn}
 use Rattle.engine.specs.Machine.{Frame, on-if, on-left, on-skip, on-right, on-node, on-parameter, on-form, openForms, innermost}
+use Rattle.engine.specs.FrameWords.{kindOf, ifKind, leftKind, skipKind, rightKind, nodeKind, parameterKind, formKind, rightWord, heldFunction, nodeWord, heldAttribute, parameterWord, heldNode}
 use Rattle.engine.specs.Decode.{plainFrame, formOccurrence, formRest, framesIn}
 use Rattle.engine.specs.Represents.{Packs}
 
@@ -22,32 +23,32 @@ use Rattle.engine.specs.Represents.{Packs}
 
 -- `w` is the word of a frame that is no form
 pub record WordOf (w : ℕ) (f : Frame) : Type 0 where
-  pub plain : eqb (w % 8) 6 ≡ false
+  pub plain : eqb (kindOf w) formKind ≡ false
   pub is : plainFrame w ≡ f
 
 -- by its kind
 module _ (w : ℕ) where
-  pub if-kind : w % 8 ≡ 0 → WordOf w on-if
+  pub if-kind : kindOf w ≡ ifKind → WordOf w on-if
   unfolding plainFrame
   if-kind e = record { plain = rw e; is = rw e }
 
-  pub left-kind : w % 8 ≡ 1 → WordOf w on-left
+  pub left-kind : kindOf w ≡ leftKind → WordOf w on-left
   unfolding plainFrame
   left-kind e = record { plain = rw e; is = rw e }
 
-  pub skip-kind : w % 8 ≡ 2 → WordOf w on-skip
+  pub skip-kind : kindOf w ≡ skipKind → WordOf w on-skip
   unfolding plainFrame
   skip-kind e = record { plain = rw e; is = rw e }
 
-  pub right-kind : w % 8 ≡ 3 → WordOf w (on-right (valueIn (w / 8 % 68719476736)))
+  pub right-kind : kindOf w ≡ rightKind → WordOf w (on-right (valueIn (heldFunction w)))
   unfolding plainFrame
   right-kind e = record { plain = rw e; is = rw e }
 
-  pub node-kind : w % 8 ≡ 4 → WordOf w (on-node (w / 8 % 32))
+  pub node-kind : kindOf w ≡ nodeKind → WordOf w (on-node (heldAttribute w))
   unfolding plainFrame
   node-kind e = record { plain = rw e; is = rw e }
 
-  pub parameter-kind : 5 ≤ w % 8 → (w % 8 ≡ 6 → ⊥) → WordOf w (on-parameter (valueIn (w / 256 % 68719476736)) (w / 8 % 32))
+  pub parameter-kind : parameterKind ≤ kindOf w → (kindOf w ≡ formKind → ⊥) → WordOf w (on-parameter (valueIn (heldNode w)) (heldAttribute w))
   unfolding plainFrame
   parameter-kind late no-form =
       record {
@@ -55,29 +56,29 @@ module _ (w : ℕ) where
         is = rw (above 0 (lit< tt), above 1 (lit< tt), above 2 (lit< tt), above 3 (lit< tt), above 4 (lit< tt));
       }
     where
-      above : (k : ℕ) → k < 5 → eqb (w % 8) k ≡ false
-      above k h = ne-eqb (w % 8) k (omega arith)
+      above : (k : ℕ) → k < 5 → eqb (kindOf w) k ≡ false
+      above k h = ne-eqb (kindOf w) k (omega arith)
 
 -- the words that are written
-pub right-word : {v : Value} {p : ℕ} → Packs v p → WordOf (3 + 8 * p) (on-right v)
-right-word {v} {p} h = rw (holds, h .0) at (right-kind (3 + 8 * p) (omega arith))
+pub right-word : {v : Value} {p : ℕ} → Packs v p → WordOf (rightWord p) (on-right v)
+right-word {v} {p} h = rw (holds, h .0) at (right-kind (rightWord p) (omega arith))
   where
-    holds : (3 + 8 * p) / 8 % 68719476736 ≡ p
+    holds : heldFunction (rightWord p) ≡ p
     holds = omega arith
 
-pub node-word : {a : ℕ} → a < 32 → WordOf (4 + 8 * a) (on-node a)
-node-word {a} h = rw holds at (node-kind (4 + 8 * a) (omega arith))
+pub node-word : {a : ℕ} → a < 32 → WordOf (nodeWord a) (on-node a)
+node-word {a} h = rw holds at (node-kind (nodeWord a) (omega arith))
   where
-    holds : (4 + 8 * a) / 8 % 32 ≡ a
+    holds : heldAttribute (nodeWord a) ≡ a
     holds = omega arith
 
-pub parameter-word : {v : Value} {a p : ℕ} → a < 32 → Packs v p → WordOf (5 + 8 * (a + 32 * p)) (on-parameter v a)
-parameter-word {v} {a} {p} small h = rw (value, number, h .0) at (parameter-kind (5 + 8 * (a + 32 * p)) (omega arith) (omega arith))
+pub parameter-word : {v : Value} {a p : ℕ} → a < 32 → Packs v p → WordOf (parameterWord a p) (on-parameter v a)
+parameter-word {v} {a} {p} small h = rw (value, number, h .0) at (parameter-kind (parameterWord a p) (omega arith) (omega arith))
   where
-    value : (5 + 8 * (a + 32 * p)) / 256 % 68719476736 ≡ p
+    value : heldNode (parameterWord a p) ≡ p
     value = omega arith
 
-    number : (5 + 8 * (a + 32 * p)) / 8 % 32 ≡ a
+    number : heldAttribute (parameterWord a p) ≡ a
     number = omega arith
 
 -- such a frame opens no form
@@ -96,8 +97,8 @@ plain-open w =
     none : {f : Frame} → ((fs : List Frame) → openForms (f ∷ fs) ≡ openForms fs) → OpensNone f
     none h = record { open-forms = h }
 
-    or-else : (j : ℕ) {f g : Frame} → OpensNone f → OpensNone g → OpensNone (cond (eqb (w % 8) j) f g)
-    or-else j p q = either OpensNone (eqb (w % 8) j) (λ e. p) (λ e. q)
+    or-else : (j : ℕ) {f g : Frame} → OpensNone f → OpensNone g → OpensNone (cond (eqb (kindOf w) j) f g)
+    or-else j p q = either OpensNone (eqb (kindOf w) j) (λ e. p) (λ e. q)
 
 -- ---- Frames
 
@@ -116,7 +117,7 @@ module _ (sheet question forms : List ℕ) where
   unfolding framesIn
   frame-on-top words n k p = rw (p .plain, p .is)
 
-  form-on-top : (words : List ℕ) (n k : ℕ) → getD words n 0 % 8 ≡ 6
+  form-on-top : (words : List ℕ) (n k : ℕ) → kindOf (getD words n 0) ≡ formKind
       → framesOf words (suc n) k ≡ on-form (formOccurrence sheet forms (k - 1)) (formRest sheet question forms (k - 1)) ∷ framesOf words n (k - 1)
   unfolding framesIn
   form-on-top words n k e = rw e
@@ -132,7 +133,7 @@ module _ (sheet question forms : List ℕ) where
     pub top-frame : {f : Frame} → WordOf (getD words (n - 1) 0) f → framesOf words n k ≡ f ∷ framesOf words (n - 1) k
     top-frame p = ap (λ i. framesOf words i k) (omega arith) ∙ frame-on-top words (n - 1) k p
 
-    pub top-form : getD words (n - 1) 0 % 8 ≡ 6
+    pub top-form : kindOf (getD words (n - 1) 0) ≡ formKind
         → framesOf words n k ≡ on-form (formOccurrence sheet forms (k - 1)) (formRest sheet question forms (k - 1)) ∷ framesOf words (n - 1) (k - 1)
     top-form e = ap (λ i. framesOf words i k) (omega arith) ∙ form-on-top words (n - 1) k e
 
@@ -143,7 +144,7 @@ module _ (sheet question forms : List ℕ) where
   unfolding framesIn
   frames-count words zero k = refl
   frames-count words (suc n) k =
-      either (λ (fs : List Frame). length fs ≡ suc n) (eqb (getD words n 0 % 8) 6) (λ e. ap suc (frames-count words n (k - 1))) (λ e. ap suc (frames-count words n k))
+      either (λ (fs : List Frame). length fs ≡ suc n) (eqb (kindOf (getD words n 0)) formKind) (λ e. ap suc (frames-count words n (k - 1))) (λ e. ap suc (frames-count words n k))
 
   -- the occurrence whose definition is running
   pub innermost-form : (words : List ℕ) (n k : ℕ) → 0 < length (openForms (framesOf words n k))
@@ -151,7 +152,7 @@ module _ (sheet question forms : List ℕ) where
   unfolding framesIn openForms innermost
   innermost-form words zero k = λ h. absurd (omega arith)
   innermost-form words (suc n) k =
-      either (λ fs. 0 < length (openForms fs) → innermost (openForms fs) ≡ formOccurrence sheet forms (k - 1)) (eqb (getD words n 0 % 8) 6)
+      either (λ fs. 0 < length (openForms fs) → innermost (openForms fs) ≡ formOccurrence sheet forms (k - 1)) (eqb (kindOf (getD words n 0)) formKind)
       (λ e h. refl)
       (λ e h. let same = plain-open (getD words n 0) .open-forms (framesOf words n k) in rw same (innermost-form words n k (rw same at h)))
 

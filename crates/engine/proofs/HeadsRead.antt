@@ -5,7 +5,7 @@ use mathlib.Core.Path.{_≡_, refl, sym, ap, _∙_}
 use Prim.Native.Nat.{ℕ, _+_, _*_, _≤_, _<_}
 use native.Mathlib.Omega.{arith}
 use lib.Dec.{eqb}
-use lib.ListN.{length, take, drop, getD}
+use lib.ListN.{length, take, drop, getD, set}
 use lib.Seq.{getD-drop}
 use borrow.Author.Tests.{ne-eqb}
 use Rattle.saiga.specs.Values.{unitT, boolT, intT, nodeT, functionOf, ofBytes, signed, ofWord}
@@ -14,10 +14,13 @@ use Rattle.saiga.specs.Expressions.{Head, base-literal, function-literal, if-he
 use Rattle.saiga.proofs.Reading.{read-width}
 use Rattle.values.proofs.Bytes.{bytes-at}
 use Rattle.expressions.specs.Widths.{Starts}
+use Rattle.engine.specs.FrameWords.{ifKind, leftKind, nodeWord}
+use Rattle.engine.specs.Decode.{formsIn}
 use Rattle.engine.specs.Steps.{Memory, Stepped, goes, returned, pushed, writeWord, thisNode, thisParameter, readHead, readNext}
 use Rattle.engine.specs.Represents.{WidthOf}
 use Rattle.engine.specs.Ready.{memoryOf, ParameterReady, HeadReady, ReadReady}
 use Rattle.engine.specs.declared.Registers.{Registers}
+use Rattle.engine.proofs.RunMemory.{goes-on-written}
 
 -- ---- Operands
 
@@ -33,11 +36,11 @@ two-operand e h = bytes-at 1 e 1 (omega arith) ∙ rw (bytes-at 0 e 2 (omega ari
 -- ---- Heads
 
 -- a head is taken off the front
-take-head : (sheet index : List ℕ) (attributes : ℕ) (mem : Memory) (m : Registers) (e : List ℕ) (h : Head) → 0 < length e → headOf (getD e 0 0) ≡ h
-    → readHead sheet mem m h (drop 1 e) ≡ readNext sheet index attributes mem m e
+take-head : (sheet index : List ℕ) (mem : Memory) (m : Registers) (e : List ℕ) (h : Head) → 0 < length e → headOf (getD e 0 0) ≡ h
+    → readHead sheet mem m h (drop 1 e) ≡ readNext sheet index mem m e
 unfolding readNext
-take-head sheet index attributes mem m [] h some is = absurd (omega arith)
-take-head sheet index attributes mem m (c ∷ l) h some is = ap (λ h. readHead sheet mem m h l) (sym is)
+take-head sheet index mem m [] h some is = absurd (omega arith)
+take-head sheet index mem m (c ∷ l) h some is = ap (λ h. readHead sheet mem m h l) (sym is)
 
 -- That a byte is none of the heads 0x10 to 0x30, as a `match` on it hands that to its last arm.
 abbrev Other : ℕ → Type 0
@@ -61,28 +64,28 @@ other-head c rest =
       ne-eqb c 0x30 (rest .1),
     )
 
-module _ {sheet e words forms : List ℕ} {m : Registers} (ready : ReadReady sheet e words forms m) where
+module _ {sheet e run : List ℕ} {m : Registers} (ready : ReadReady sheet e run m) where
   -- the head of the last arm
   last-head : Other (getD e 0 0) → headOf (getD e 0 0) ≡ parameter-head
   last-head rest = other-head (getD e 0 0) rest ∙ go (eqb (getD e 0 0) 0x31) (rw (other-head (getD e 0 0) rest) at (ready .head))
     where
-      go : (b : Bool) → HeadReady sheet forms m (cond b parameter-head no-head) → cond b parameter-head no-head ≡ parameter-head
+      go : (b : Bool) → HeadReady sheet run m (cond b parameter-head no-head) → cond b parameter-head no-head ≡ parameter-head
       go true r = refl
       go false r = absurd r
 
-  pub parameter-ready : Other (getD e 0 0) → ParameterReady sheet forms m
+  pub parameter-ready : Other (getD e 0 0) → ParameterReady sheet run m
   parameter-ready rest = rw (last-head rest) at (ready .head)
 
   -- What each head comes to.
-  module _ (index : List ℕ) (attributes : ℕ) (store : List ℕ) where
+  module _ (index : List ℕ) (store : List ℕ) where
     abbrev mem : Memory
-    mem = memoryOf store words forms
+    mem = memoryOf store run
 
     abbrev Reads : Stepped → Type 0
-    Reads to = to ≡ readNext sheet index attributes mem m e
+    Reads to = to ≡ readNext sheet index mem m e
 
     reads-as : (h : Head) → headOf (getD e 0 0) ≡ h → Reads (readHead sheet mem m h (drop 1 e))
-    reads-as h is = take-head sheet index attributes mem m e h (ready .some) is
+    reads-as h is = take-head sheet index mem m e h (ready .some) is
 
     pub reads-unit : getD e 0 0 ≡ 0x10 → Reads (goes (returned m 1 unit) mem)
     unfolding headOf readHead ofWord
@@ -104,23 +107,27 @@ module _ {sheet e words forms : List ℕ} {m : Registers} (ready : ReadReady she
     unfolding headOf readHead
     reads-function is = rw (getD-drop 1 e 0 0) at (reads-as function-literal (rw is))
 
-    pub reads-if : getD e 0 0 ≡ 0x20 → Reads (goes (pushed m 1) (writeWord mem (m .frames) 0))
-    unfolding headOf readHead
-    reads-if is = reads-as if-head (rw is)
+    -- a frame's word is written
+    pushes : (w k : ℕ) → Reads (goes (pushed m w) (writeWord mem (m .frames) k)) → Reads (goes (pushed m w) (memoryOf store (set run (m .frames) k)))
+    pushes w k reads = goes-on-written (pushed m w) store run (m .frames) k (ready .room) ∙ reads
 
-    pub reads-application : getD e 0 0 ≡ 0x21 → Reads (goes (pushed m 1) (writeWord mem (m .frames) 1))
+    pub reads-if : getD e 0 0 ≡ 0x20 → Reads (goes (pushed m 1) (memoryOf store (set run (m .frames) ifKind)))
     unfolding headOf readHead
-    reads-application is = reads-as application-head (rw is)
+    reads-if is = pushes 1 ifKind (reads-as if-head (rw is))
 
-    pub reads-attribute : getD e 0 0 ≡ 0x22 → Reads (goes (pushed m 2) (writeWord mem (m .frames) (4 + 8 * getD e 1 0)))
+    pub reads-application : getD e 0 0 ≡ 0x21 → Reads (goes (pushed m 1) (memoryOf store (set run (m .frames) leftKind)))
     unfolding headOf readHead
-    reads-attribute is = rw (getD-drop 1 e 0 0) at (reads-as attribute-head (rw is))
+    reads-application is = pushes 1 leftKind (reads-as application-head (rw is))
 
-    pub reads-this : getD e 0 0 ≡ 0x30 → Reads (goes (returned m 1 (thisNode forms m)) mem)
+    pub reads-attribute : getD e 0 0 ≡ 0x22 → Reads (goes (pushed m 2) (memoryOf store (set run (m .frames) (nodeWord (getD e 1 0)))))
+    unfolding headOf readHead
+    reads-attribute is = pushes 2 (nodeWord (getD e 1 0)) (rw (getD-drop 1 e 0 0) at (reads-as attribute-head (rw is)))
+
+    pub reads-this : getD e 0 0 ≡ 0x30 → Reads (goes (returned m 1 (thisNode (formsIn run) m)) mem)
     unfolding headOf readHead
     reads-this is = reads-as this-head (rw is)
 
-    pub reads-parameter : Other (getD e 0 0) → Reads (goes (returned m 1 (thisParameter sheet forms m)) mem)
+    pub reads-parameter : Other (getD e 0 0) → Reads (goes (returned m 1 (thisParameter sheet (formsIn run) m)) mem)
     unfolding readHead
     reads-parameter rest = reads-as parameter-head (last-head rest)
 

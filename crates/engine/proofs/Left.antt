@@ -17,13 +17,15 @@ use Rattle.saiga.specs.Expressions.{Head, base-literal, function-literal, if-he
 use Rattle.saiga.specs.Types.{attributeAt}
 use Rattle.saiga.specs.Sheet.{Sheet, nodeCount, accepted}
 use Rattle.saiga.specs.Caching.{Entry}
-use Rattle.saiga.specs.Store.{entryBytes, entryOf, isEntry, readEntries, checkStore, leftStore}
+use Rattle.saiga.specs.Store.{fieldBytes, fieldsOf, fieldsFor, entryBytes, entryOf, isEntry, readEntries, checkStore, leftStore}
 use Rattle.saiga.proofs.Preservation.{either}
 use Rattle.saiga.proofs.FourBytes.{word-trip}
 use Rattle.saiga.proofs.Entries.{first-bytes, store-in}
-use Rattle.stores.specs.Keys.{Key, findKey, entriesIn, recordOf, putAt}
+use Rattle.stores.specs.declared.Key.{Key}
+use Rattle.stores.specs.Keys.{findKey, entriesIn, recordOf, putAt}
 use Rattle.stores.proofs.ByKey.{entries-are, entries-last}
 use Rattle.stores.proofs.Written.{left-more}
+use Rattle.engine.specs.FrameWords.{kindOf, ifKind, leftKind, skipKind, rightKind, nodeKind, formKind}
 use Rattle.engine.specs.Steps.{Memory, Stepped, goes, waits, finishes, stops, readHead, appended, unlessFound, cacheWrite, closeForm, takeIf, within, openRule, openFigure, takeKept, attributeDue, give, readNext, stepOf}
 use Rattle.engine.specs.declared.Registers.{Registers}
 
@@ -55,7 +57,7 @@ Moves mem m waits = Unit {0}
 Moves mem m finishes = Unit {0}
 Moves mem m (stops n) = Unit {0}
 
-module _ (sheet index : List ℕ) (attributes : ℕ) (mem : Memory) (m : Registers) where
+module _ (sheet index : List ℕ) (mem : Memory) (m : Registers) where
   abbrev P : Stepped → Type 0
   P = Moves mem m
 
@@ -70,7 +72,7 @@ module _ (sheet index : List ℕ) (attributes : ℕ) (mem : Memory) (m : Registe
   reads-moves parameter-head l = unchanged
   reads-moves no-head l = tt
 
-  next-moves : (l : List ℕ) → P (readNext sheet index attributes mem m l)
+  next-moves : (l : List ℕ) → P (readNext sheet index mem m l)
   unfolding readNext
   next-moves [] = tt
   next-moves (c ∷ l) = reads-moves (headOf c) l
@@ -84,17 +86,17 @@ module _ (sheet index : List ℕ) (attributes : ℕ) (mem : Memory) (m : Registe
   if-moves skip true = unchanged
   if-moves skip false = unchanged
 
-  figure-moves : (n a word : ℕ) (f : Option Value) → P (openFigure sheet index attributes mem m n a word f)
+  figure-moves : (n a word : ℕ) (f : Option Value) → P (openFigure sheet index mem m n a word f)
   unfolding openFigure openRule
   figure-moves n a word none = unchanged
   figure-moves n a word (some v) = write-changes (mem .store) (m .kept) _ _
 
-  kept-moves : (n a : ℕ) (f : Option ℕ) → P (takeKept sheet index attributes mem m n a f)
+  kept-moves : (n a : ℕ) (f : Option ℕ) → P (takeKept sheet index mem m n a f)
   unfolding takeKept
   kept-moves n a none = figure-moves n a _ _
   kept-moves n a (some j) = unchanged
 
-  attribute-moves : (budget limit n a : ℕ) → P (attributeDue sheet index attributes budget limit mem m n a)
+  attribute-moves : (budget limit n a : ℕ) → P (attributeDue sheet index budget limit mem m n a)
   unfolding attributeDue
   attribute-moves budget limit n a =
       either P (eqb n null) {x = stops 14} (λ _. tt) λ _.
@@ -102,18 +104,18 @@ module _ (sheet index : List ℕ) (attributes : ℕ) (mem : Memory) (m : Registe
       either P (leb 64 (m .forms)) {x = stops 16} (λ _. tt) λ _.
       either P (leb limit (m .steps)) {x = waits} (λ _. tt) λ _. kept-moves n a _
 
-  give-moves : (budget limit skip packed w : ℕ) → P (give sheet index attributes budget limit skip packed mem m w)
+  give-moves : (budget limit skip packed w : ℕ) → P (give sheet index budget limit skip packed mem m w)
   unfolding give closeForm
   give-moves budget limit skip packed w =
-      either P (eqb (w % 8) 0) (λ _. within-moves budget limit _ (if-moves skip (truth (m .value)))) λ _.
-      either P (eqb (w % 8) 1) (λ _. unchanged) λ _.
-      either P (eqb (w % 8) 2) (λ _. unchanged) λ _.
-      either P (eqb (w % 8) 3) (λ _. within-moves budget limit _ unchanged) λ _.
-      either P (eqb (w % 8) 4) (λ _. unchanged) λ _.
-      either P (eqb (w % 8) 6) (λ _. write-changes (mem .store) (m .kept) _ _) λ _.
+      either P (eqb (kindOf w) ifKind) (λ _. within-moves budget limit _ (if-moves skip (truth (m .value)))) λ _.
+      either P (eqb (kindOf w) leftKind) (λ _. unchanged) λ _.
+      either P (eqb (kindOf w) skipKind) (λ _. unchanged) λ _.
+      either P (eqb (kindOf w) rightKind) (λ _. within-moves budget limit _ unchanged) λ _.
+      either P (eqb (kindOf w) nodeKind) (λ _. unchanged) λ _.
+      either P (eqb (kindOf w) formKind) (λ _. write-changes (mem .store) (m .kept) _ _) λ _.
       attribute-moves budget limit _ _
 
-  store-moves-to : (question : List ℕ) (budget limit skip packed : ℕ) → P (stepOf sheet index attributes question budget limit skip packed mem m)
+  store-moves-to : (question : List ℕ) (budget limit skip packed : ℕ) → P (stepOf sheet index question budget limit skip packed mem m)
   unfolding stepOf
   store-moves-to question budget limit skip packed =
       either P (m .returning)
@@ -121,7 +123,7 @@ module _ (sheet index : List ℕ) (attributes : ℕ) (mem : Memory) (m : Registe
       (λ _. next-moves _)
 
   pub store-moves : (question : List ℕ) (budget limit skip packed : ℕ) {m′ : Registers} {mem′ : Memory}
-      → stepOf sheet index attributes question budget limit skip packed mem m ≡ goes m′ mem′
+      → stepOf sheet index question budget limit skip packed mem m ≡ goes m′ mem′
       → Changed (mem .store) (m .kept) (mem′ .store) (m′ .kept)
   store-moves question budget limit skip packed e = rw e at (store-moves-to question budget limit skip packed)
 
@@ -138,14 +140,14 @@ bytes-again (suc k) n =
 
 -- the words of a record that passes
 record-words : (s : Sheet) (before : List Entry) (l : List ℕ) → isEntry s before l ≡ true
-    → (isWord (nodeCount s) (attributeAt (s .attributes) (getD l 2 0) .parameter-type) (ofBytes (take 4 (drop 4 l))) ≡ true)
-    × (isWord (nodeCount s) (attributeAt (s .attributes) (getD l 2 0) .result) (ofBytes (take 4 (drop 8 l))) ≡ true)
+    → (isWord (nodeCount s) (attributeAt (s .attributes) (fieldsOf l .attribute) .parameter-type) (fieldsOf l .parameter) ≡ true)
+    × (isWord (nodeCount s) (attributeAt (s .attributes) (fieldsOf l .attribute) .result) (fieldsOf l .value) ≡ true)
 unfolding isEntry
 record-words s before l e = let t = simp and-eq-true-iff at e in (t .0 .0 .1, t .0 .1)
 
 -- A record that passes is the bytes of the entry that is read from it.
 record-trip : (s : Sheet) (before : List Entry) (q : Key) (w : ℕ) → isEntry s before (recordOf q w) ≡ true → entryBytes (entryOf s (recordOf q w)) ≡ recordOf q w
-unfolding entryBytes entryOf recordOf toBytes
+unfolding entryBytes entryOf recordOf fieldBytes fieldsOf fieldsFor toBytes
 record-trip s before q w passes =
     let (p, v) = record-words s before (recordOf q w) passes in
     let parameter = ap (toBytes 4) (word-trip _ _ _ p) ∙ bytes-again 4 (q .word) in
@@ -162,15 +164,15 @@ module _ (s : Sheet) (store : List ℕ) (k : ℕ) (q : Key) (w : ℕ) (room : k 
   front-length = length-take-le (12 * k) store (omega arith)
 
   record-length : length (recordOf q w) ≡ 12
-  unfolding recordOf toBytes
+  unfolding recordOf fieldBytes fieldsFor toBytes
   record-length = refl
 
   after-is : after ≡ take (12 * k) store ++ (recordOf q w ++ drop (12 * k + 12) store)
-  unfolding appended recordOf
+  unfolding appended putAt
   after-is = append-assoc (take (12 * k) store) (recordOf q w) (drop (12 * k + 12) store)
 
   after-put : after ≡ putAt store k (recordOf q w)
-  unfolding appended putAt recordOf
+  unfolding appended
   after-put = refl
 
   after-length : length after ≡ length store

@@ -9,6 +9,7 @@ pub mod StoreWritten
 pub mod Attributes
 pub mod Kept
 pub mod Widths
+pub mod RunMemory
 pub mod HeadsRead
 pub mod ReadyForCode
 pub mod Whole

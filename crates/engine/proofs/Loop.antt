@@ -32,7 +32,7 @@ use Rattle.engine.specs.Good.{Pieces, Good}
 use Rattle.engine.proofs.Bounds.{measure, move-falls, small-on, start-small}
 use Rattle.engine.proofs.Simulation.{Uncounted, same, written, simulates, good-on, runs-on}
 use Rattle.engine.proofs.Start.{start, question-start, pieces}
-use Rattle.engine.specs.Decode.{sheetIn, sheetOf, entriesOf, framesIn, modeOf, machineOf}
+use Rattle.engine.specs.Decode.{frameLimit, formsSize, sheetIn, sheetOf, entriesOf, framesIn, modeOf, machineOf}
 use Rattle.engine.specs.Steps.{Memory, Stepped, goes, waits, stepOf}
 use Rattle.engine.specs.Steps as Steps
 use Rattle.engine.specs.declared.Registers.{Registers}
@@ -59,7 +59,7 @@ module _ (sheet question store words forms : List ℕ) (kept : ℕ) (any : Value
   unfolding machineOf modeOf framesIn restOf pieceIn entriesOf
   start-machine = rw (passes, sub-zero, take-length)
 
-  start-holds : length words ≡ 16640 → length forms ≡ 256 → HoldsIn sheet question lent-memory (started question kept any)
+  start-holds : length words ≡ frameLimit → length forms ≡ formsSize → HoldsIn sheet question lent-memory (started question kept any)
   unfolding framesIn openForms pieceIn
   start-holds words-size forms-size =
       record {
@@ -79,14 +79,14 @@ left-none : (store : List ℕ) (kept : ℕ) (entries : List Entry) → length en
 unfolding leftStore entriesBytes
 left-none store kept entries count = rw (← count, drop-length, append-nil, take-append-drop)
 
-start-at : (sheet index question : List ℕ) (attributes budget : ℕ) (store words forms : List ℕ) (kept : ℕ) (any : Value) (entries : List Entry) (e : Expr)
-    → checkSheet sheet ≡ accepted (sheetOf sheet) → Indexed sheet (sheetOf sheet) index → attributeCount (sheetOf sheet) ≡ attributes
+start-at : (sheet index question : List ℕ) (budget : ℕ) (store words forms : List ℕ) (kept : ℕ) (any : Value) (entries : List Entry) (e : Expr)
+    → checkSheet sheet ≡ accepted (sheetOf sheet) → Indexed sheet (sheetOf sheet) index
     → checkStore (sheetOf sheet) store kept ≡ accepted entries → checkQuestion (sheetOf sheet) question ≡ accepted e
-    → length words ≡ 16640 → length forms ≡ 256
-    → Invariant sheet index question attributes budget store kept (runQuestion (sheetOf sheet) (length store / 12) budget entries e)
+    → length words ≡ frameLimit → length forms ≡ formsSize
+    → Invariant sheet index question budget store kept (runQuestion (sheetOf sheet) (length store / 12) budget entries e)
     record { store = store; words = words; forms = forms } (started question kept any)
 unfolding asked questionScope
-start-at sheet index question attributes budget store words forms kept any entries e accepts index-of attributes-are passes form words-size forms-size =
+start-at sheet index question budget store words forms kept any entries e accepts index-of passes form words-size forms-size =
     let s = sheetOf sheet in
     let machine = start-machine sheet question store words forms kept any entries passes in
     let (good, state) = question-start s question e form entries in
@@ -96,7 +96,6 @@ start-at sheet index question attributes budget store words forms kept any entri
       represents = record {
         accepts = accepts;
         index-of = index-of;
-        attributes-are = attributes-are;
         holds = start-holds sheet question store words forms kept any entries passes words-size forms-size;
         good = rw machine good;
         small = rw machine (start-small (start question entries) refl (question-short s question e form) .0);
@@ -114,16 +113,16 @@ sheet-is : (sheet : List ℕ) (s : Sheet) → checkSheet sheet ≡ accepted s �
 unfolding sheetIn
 sheet-is sheet s ok = rw ok
 
-pub invariant-start : (sheet index question : List ℕ) (attributes budget : ℕ) (store words forms : List ℕ) (kept : ℕ) (any : Value)
+pub invariant-start : (sheet index question : List ℕ) (budget : ℕ) (store words forms : List ℕ) (kept : ℕ) (any : Value)
     (s : Sheet) (entries : List Entry) (e : Expr)
-    → checkSheet sheet ≡ accepted s → Indexed sheet s index → attributeCount s ≡ attributes → checkStore s store kept ≡ accepted entries
-    → checkQuestion s question ≡ accepted e → length words ≡ 16640 → length forms ≡ 256
-    → Invariant sheet index question attributes budget store kept (runQuestion s (length store / 12) budget entries e)
+    → checkSheet sheet ≡ accepted s → Indexed sheet s index → checkStore s store kept ≡ accepted entries
+    → checkQuestion s question ≡ accepted e → length words ≡ frameLimit → length forms ≡ formsSize
+    → Invariant sheet index question budget store kept (runQuestion s (length store / 12) budget entries e)
     record { store = store; words = words; forms = forms } (started question kept any)
-invariant-start sheet index question attributes budget store words forms kept any s entries e accepts index-of attributes-are passes form words-size forms-size =
+invariant-start sheet index question budget store words forms kept any s entries e accepts index-of passes form words-size forms-size =
     let same = sheet-is sheet s accepts in
     rw same
-    (start-at sheet index question attributes budget store words forms kept any entries e (rw same at accepts) (rw same at index-of) (rw same at attributes-are)
+    (start-at sheet index question budget store words forms kept any entries e (rw same at accepts) (rw same at index-of)
     (rw same at passes) (rw same at form) words-size forms-size)
 
 -- ---- A move of the machine
@@ -162,8 +161,8 @@ entries-are : (sheet question : List ℕ) (mem : Memory) (m : Registers) (h : Ho
 unfolding machineOf entriesOf
 entries-are sheet question mem m h = rw (h .stored)
 
-module _ {sheet index question : List ℕ} {attributes budget : ℕ} {first : List ℕ} {lent : ℕ} {whole : Ended} {mem : Memory} {m : Registers}
-    (inv : Invariant sheet index question attributes budget first lent whole mem m) where
+module _ {sheet index question : List ℕ} {budget : ℕ} {first : List ℕ} {lent : ℕ} {whole : Ended} {mem : Memory} {m : Registers}
+    (inv : Invariant sheet index question budget first lent whole mem m) where
   abbrev s : Sheet
   s = sheetOf sheet
 
@@ -173,7 +172,7 @@ module _ {sheet index question : List ℕ} {attributes budget : ℕ} {first : Li
   abbrev capacity : ℕ
   capacity = length (mem .store) / 12
 
-  abbrev r : Represents sheet index question attributes mem m
+  abbrev r : Represents sheet index question mem m
   r = inv .represents
 
   abbrev rules : Pieces s
@@ -207,26 +206,25 @@ module _ {sheet index question : List ℕ} {attributes budget : ℕ} {first : Li
 
   module _ (limit skip packed : ℕ) (width : WidthOf (restOf sheet question (m .forms) (m .at) (m .end)) skip) (packs : PacksIn mem m packed) where
     abbrev step : Stepped
-    step = stepOf sheet index attributes question budget limit skip packed mem m
+    step = stepOf sheet index question budget limit skip packed mem m
 
     matches : {st : Stepped} → step ≡ st → Matches sheet question capacity budget limit m M st
-    matches e = subst (Matches sheet question capacity budget limit m M) e (step-whole sheet index question attributes budget limit skip packed mem m r width packs)
+    matches e = subst (Matches sheet question capacity budget limit m M) e (step-whole sheet index question budget limit skip packed mem m r width packs)
 
     module _ {m′ : Registers} {mem′ : Memory} (e : step ≡ goes m′ mem′) where
-      pub invariant-on : Invariant sheet index question attributes budget first lent whole mem′ m′
+      pub invariant-on : Invariant sheet index question budget first lent whole mem′ m′
       unfolding machineOf
       invariant-on =
           let (next, holds, size) = matches e in
           let M′ = machineIn sheet question mem′ m′ in
           let (of-type, within) = next-in s sheet (r .accepts) capacity budget (base (r .type)) M M′ (r .good) typed (inv .within) next in
-          let changed = store-moves sheet index attributes mem m question budget limit skip packed e in
+          let changed = store-moves sheet index mem m question budget limit skip packed e in
           let was = rw (entries-are sheet question mem m (r .holds)) at (inv .left) in
           let (left, room, lent-kept) = left-on s first lent changed (r .holds .stored) (holds .stored) (inv .room) (inv .lent-kept) was in
           record {
             represents = record {
               accepts = r .accepts;
               index-of = r .index-of;
-              attributes-are = r .attributes-are;
               holds = holds;
               good = next-good next;
               small = small-on rules (r .small) next;

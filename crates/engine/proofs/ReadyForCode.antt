@@ -1,5 +1,5 @@
 -- What represents a machine is ready for the code: to read a head, or to give a value to a frame.
-use mathlib.Core.Bool.{true, false}
+use mathlib.Core.Bool.{Bool, true, false}
 use mathlib.Core.List.{List, [], _∷_}
 use mathlib.Core.Path.{_≡_, refl, ap}
 use Prim.Native.Nat.{ℕ, suc, _+_, _*_, _-_, _%_, _≤_, _<_}
@@ -11,7 +11,7 @@ use Rattle.saiga.specs.Expressions.{Scope, Head, base-literal, function-literal
 use Rattle.saiga.specs.Sheet.{Sheet, nodeCount, questionScope}
 use Rattle.saiga.specs.Caching.{Running}
 use Rattle.saiga.specs.Sound.{OccurrenceIn, RunningIn}
-use Rattle.saiga.proofs.FourBytes.{word-more}
+use Rattle.saiga.proofs.FourBytes.{word-more, word-small}
 use Rattle.sheets.proofs.Indexed.{attribute-by-index}
 use Rattle.engine.specs.RunningPiece.{restOf}
 use Rattle.expressions.specs.Widths.{Starts, headWidth}
@@ -19,12 +19,14 @@ use Rattle.engine.specs.Machine.{Frame, on-if, on-left, on-skip, on-righ
 use Rattle.engine.specs.Good.{Parses, Ready, GoodAt}
 use Rattle.engine.proofs.Bounds.{frames-fit, room-to-push}
 use Rattle.engine.proofs.Heads.{none-inside}
-use Rattle.engine.specs.Decode.{sheetOf, formOccurrence, framesIn, modeOf, machineOf}
+use Rattle.engine.specs.FrameWords.{kindOf, ifKind, skipKind}
+use Rattle.engine.specs.Decode.{frameLimit, runSize, wordsIn, formsIn, sheetOf, formOccurrence, framesIn, modeOf, machineOf}
 use Rattle.engine.specs.Steps.{Memory}
 use Rattle.engine.specs.Represents.{machineIn, Represents}
-use Rattle.engine.specs.Ready.{NodeReady, ParameterReady, HeadReady, ReadReady}
+use Rattle.engine.specs.Ready.{memoryOf, NodeReady, ParameterReady, HeadReady, ReadReady, FrameReady}
 use Rattle.engine.specs.declared.Registers.{Registers}
 use Rattle.engine.proofs.Decoding.{WordOf, if-kind, skip-kind, top-frame, frames-count, innermost-form, rest-length}
+use Rattle.engine.proofs.RunMemory.{run-length, form-at}
 use Rattle.engine.proofs.Steps.{Fits, head-fits, inside-form}
 use Rattle.engine.proofs.Attributes.{plug-in, form-in}
 
@@ -52,107 +54,124 @@ width-fits sc l this-head fits = omega arith
 width-fits sc l parameter-head fits = omega arith
 width-fits sc l no-head fits = absurd fits
 
--- ---- Where the rest and the frames lie
+-- ---- Where the rest, the frames and the forms lie
 
-module _ {sheet index question : List ℕ} {attributes : ℕ} {mem : Memory} {m : Registers} (r : Represents sheet index question attributes mem m) where
-  pub rest-reaches : m .at + length (restOf sheet question (m .forms) (m .at) (m .end)) ≡ m .end
-  rest-reaches = omega (arith, rest-length sheet question (m .forms) (m .at) (m .end) (r .holds .to), r .holds .from)
+module _ {sheet index question : List ℕ} {store : List ℕ} (run : List ℕ) {m : Registers}
+    (r : Represents sheet index question (memoryOf store run) m) where
+  abbrev mem : Memory
+  mem = memoryOf store run
 
-  pub frames-inside : m .frames ≤ length (mem .words)
-  unfolding machineOf
-  frames-inside =
-      omega (
-        arith,
-        frames-count sheet question (mem .forms) (mem .words) (m .frames) (m .forms),
-        r .holds .counted,
-        r .holds .few,
-        r .holds .words-size,
-        frames-fit (machineIn sheet question mem m) (r .small),
-      )
-
--- ---- Reading a head
-
-module _ {sheet index question : List ℕ} {attributes : ℕ} {mem : Memory} {m : Registers} (r : Represents sheet index question attributes mem m)
-    (evaluates : m .returning ≡ false) where
   abbrev s : Sheet
   s = sheetOf sheet
 
   abbrev frames : List Frame
-  frames = framesIn sheet question (mem .words) (mem .forms) (m .frames) (m .forms)
+  frames = framesIn sheet question (wordsIn run) (formsIn run) (m .frames) (m .forms)
 
   abbrev bytes : List ℕ
   bytes = restOf sheet question (m .forms) (m .at) (m .end)
 
-  good : GoodAt s evaluating bytes frames
-  unfolding machineOf modeOf
-  good = rw evaluates at (r .good)
+  -- the array of the run has its length
+  pub run-size : length run ≡ runSize
+  run-size = run-length run (r .holds .words-size) (r .holds .forms-size)
 
-  typed : RunningIn (nodeCount s) (s .attributes) (plug s frames (termAt s frames bytes) (restAt s frames bytes)) (base (r .type))
-  unfolding machineOf modeOf stateOf termOf
-  typed = rw evaluates at (r .typed)
+  pub rest-reaches : m .at + length bytes ≡ m .end
+  rest-reaches = omega (arith, rest-length sheet question (m .forms) (m .at) (m .end) (r .holds .to), r .holds .from)
 
-  room : m .frames < length (mem .words)
-  unfolding machineOf modeOf
-  room =
+  pub frames-inside : m .frames ≤ frameLimit
+  unfolding machineOf
+  frames-inside =
       omega (
         arith,
-        frames-count sheet question (mem .forms) (mem .words) (m .frames) (m .forms),
-        r .holds .words-size,
-        room-to-push s (machineIn sheet question mem m) (r .good) (r .small) (omega (arith, r .holds .counted, r .holds .few))
-            (ap (λ b. modeOf b (m .value)) evaluates),
+        frames-count sheet question (formsIn run) (wordsIn run) (m .frames) (m .forms),
+        r .holds .counted,
+        r .holds .few,
+        frames-fit (machineIn sheet question mem m) (r .small),
       )
 
+  pub frame-ready : 0 < m .frames → FrameReady run m
+  frame-ready some = record { size = run-size; framed = some; inside = frames-inside }
+
+  -- the innermost form, where one is open
   module _ (some : 0 < length (openForms frames)) where
     opened : 1 ≤ m .forms
     opened = omega (arith, r .holds .counted)
 
-    placed : 4 * m .forms ≤ length (mem .forms)
-    placed = omega (arith, r .holds .few, r .holds .forms-size)
-
-    occurrence-in : OccurrenceIn (nodeCount s) (s .attributes) (formOccurrence sheet (mem .forms) (m .forms - 1))
+    occurrence-in : OccurrenceIn (nodeCount s) (s .attributes) (formOccurrence sheet (formsIn run) (m .forms - 1))
+    unfolding machineOf stateOf modeOf termOf
     occurrence-in =
-        rw (innermost-form sheet question (mem .forms) (mem .words) (m .frames) (m .forms) some) at (innermost-in s frames _ _ some typed)
+        rw (innermost-form sheet question (formsIn run) (wordsIn run) (m .frames) (m .forms) some) at (go (m .returning) (r .typed))
+      where
+        go : (b : Bool) → RunningIn (nodeCount s) (s .attributes) (termOf s (modeOf b (m .value)) bytes frames) (base (r .type))
+            → OccurrenceIn (nodeCount s) (s .attributes) (innermost (openForms frames))
+        go true h = innermost-in s frames _ _ some h
+        go false h = innermost-in s frames _ _ some h
 
-    node-ready : NodeReady (mem .forms) m
+    node-ready : NodeReady run m
     unfolding formOccurrence
-    node-ready = record { opened = opened; placed = placed; small = omega (arith, occurrence-in .node-declared, r .index-of .nodes-bound) }
+    node-ready =
+        record {
+          size = run-size;
+          opened = opened;
+          few = r .holds .few;
+          small = rw (form-at run (4 * (m .forms - 1)) _ refl) (omega (arith, occurrence-in .node-declared, r .index-of .described .nodes-bound));
+        }
 
-    parameter-ready : ParameterReady sheet (mem .forms) m
+    pub parameter-ready : ParameterReady sheet run m
     unfolding formOccurrence
     parameter-ready =
         let declared = occurrence-in .attribute-declared in
+        let is-word =
+        rw (attribute-by-index sheet s index (r .index-of .described) _ declared, r .holds .placed (m .forms - 1) (omega (arith, opened)) .word)
+        at (occurrence-in .parameter-in .is-word) in
         record {
-          opened = opened;
-          placed = placed;
-          declared = omega (arith, declared, r .index-of .room);
-          word =
-              word-more _ _ (r .index-of .nodes-bound)
-              (rw (attribute-by-index sheet s index (r .index-of) _ declared, r .holds .placed (m .forms - 1) (omega (arith, opened)) .word)
-              at (occurrence-in .parameter-in .is-word));
+          node = node-ready;
+          declared = rw (form-at run (4 * (m .forms - 1)) _ refl) (omega (arith, declared, r .index-of .described .room));
+          word = rw (form-at run (4 * (m .forms - 1)) _ refl, form-at run (4 * (m .forms - 1) + 1) (frameLimit + 4 * (m .forms - 1) + 1) (omega arith)) (word-more _ _ (r .index-of .described .nodes-bound) is-word);
+          word-small =
+              rw (form-at run (4 * (m .forms - 1) + 1) (frameLimit + 4 * (m .forms - 1) + 1) (omega arith)) (word-small (nodeCount s) _ _ (omega (arith, r .index-of .described .nodes-bound)) is-word);
         }
 
-  head-ready : (l : List ℕ) (h : Head) → Fits (scopeIn s (openForms frames)) h l → HeadReady sheet (mem .forms) m h
+-- ---- Reading a head
+
+module _ {sheet index question : List ℕ} {store : List ℕ} (run : List ℕ) {m : Registers}
+    (r : Represents sheet index question (memoryOf store run) m) (evaluates : m .returning ≡ false) where
+  good : GoodAt (s run r) evaluating (bytes run r) (frames run r)
+  unfolding machineOf modeOf
+  good = rw evaluates at (r .good)
+
+  room : m .frames < frameLimit
+  unfolding machineOf modeOf
+  room =
+      omega (
+        arith,
+        frames-count sheet question (formsIn run) (wordsIn run) (m .frames) (m .forms),
+        room-to-push (s run r) (machineIn sheet question (mem run r) m) (r .good) (r .small) (omega (arith, r .holds .counted, r .holds .few))
+            (ap (λ b. modeOf b (m .value)) evaluates),
+      )
+
+  head-ready : (l : List ℕ) (h : Head) → Fits (scopeIn (s run r) (openForms (frames run r))) h l → HeadReady sheet run m h
   unfolding questionScope
   head-ready l (base-literal t) fits = tt
   head-ready l function-literal fits = tt
   head-ready l if-head fits = tt
   head-ready l application-head fits = tt
   head-ready l attribute-head fits = tt
-  head-ready l this-head fits = node-ready (inside-form s _ (λ sc. sc .has-this) refl fits)
-  head-ready l parameter-head fits = parameter-ready (inside-form s _ (λ sc. sc .has-parameter) refl fits)
+  head-ready l this-head fits = node-ready run r (inside-form (s run r) _ (λ sc. sc .has-this) refl fits)
+  head-ready l parameter-head fits = parameter-ready run r (inside-form (s run r) _ (λ sc. sc .has-parameter) refl fits)
   head-ready l no-head fits = fits
 
-  pub read-ready : ReadReady sheet bytes (mem .words) (mem .forms) m
-  read-ready = go bytes refl
+  pub read-ready : ReadReady sheet (bytes run r) run m
+  read-ready = go (bytes run r) refl
     where
-      go : (l : List ℕ) → bytes ≡ l → ReadReady sheet l (mem .words) (mem .forms) m
+      go : (l : List ℕ) → bytes run r ≡ l → ReadReady sheet l run m
       go [] is = none-inside (rw is at (good .0))
       go (c ∷ l) is =
           let fits = head-fits (rw is at (good .0)) in
           record {
             some = omega arith;
             operand = width-fits _ l (headOf c) fits;
-            inside = omega (arith, ap length is, rest-reaches r);
+            inside = omega (arith, ap length is, rest-reaches run r);
+            size = run-size run r;
             room = room;
             head = head-ready l (headOf c) fits;
           }
@@ -163,7 +182,7 @@ starts : {sc : Scope} {l : List ℕ} → Parses sc l → Starts l
 starts {sc} p = record { scope = sc; expr = p .expr; width = p .width; read = p .read }
 
 -- An expression stands before a machine that gives a value to an IF, or has taken its first branch.
-module _ {sheet index question : List ℕ} {attributes : ℕ} {mem : Memory} {m : Registers} (r : Represents sheet index question attributes mem m)
+module _ {sheet index question : List ℕ} {mem : Memory} {m : Registers} (r : Represents sheet index question mem m)
     (gives : m .returning ≡ true) (some : 0 < m .frames) where
   abbrev rest : List ℕ
   rest = restOf sheet question (m .forms) (m .at) (m .end)
@@ -178,8 +197,8 @@ module _ {sheet index question : List ℕ} {attributes : ℕ} {mem : Memory} {m 
       rw gives at (r .good) in
       rw (top-frame sheet question (mem .forms) (mem .words) (m .frames) (m .forms) some w) at good
 
-  pub if-starts : word % 8 ≡ 0 → Starts rest
+  pub if-starts : kindOf word ≡ ifKind → Starts rest
   if-starts kind = starts (follows (if-kind word kind) .0)
 
-  pub skip-starts : word % 8 ≡ 2 → Starts rest
+  pub skip-starts : kindOf word ≡ skipKind → Starts rest
   skip-starts kind = starts (follows (skip-kind word kind) .0)

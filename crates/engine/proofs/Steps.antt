@@ -23,6 +23,7 @@ use Rattle.saiga.proofs.Reading.{read-width}
 use Rattle.engine.specs.RunningPiece.{restOf}
 use Rattle.values.specs.Packed.{valueIn}
 use Rattle.engine.specs.Machine.{Frame, on-if, on-left, on-skip, on-right, on-node, Mode, evaluating, returning, Machine, openForms, innermost, scopeIn, widthOf, passOver, Move, moves, takes, readHead, within, branch, give, readNext, moveOf, move}
+use Rattle.engine.specs.FrameWords.{kindOf, ifKind, leftKind, skipKind, rightKind, nodeKind, parameterKind, formKind, heldAttribute, heldNode}
 use Rattle.engine.specs.Decode.{sheetOf, entriesOf, formOccurrence, framesIn, modeOf, machineOf}
 use Rattle.engine.specs.Steps.{Memory, Stepped, goes, returned, pushed, answered, writeWord, turned, takeIf, closeForm, attributeDue, stepOf}
 use Rattle.engine.specs.Steps as Steps
@@ -109,13 +110,13 @@ module _ (sheet question : List ℕ) (budget limit : ℕ) (mem : Memory) (m : Re
   below = framesIn sheet question (mem .words) (mem .forms) (m .frames - 1) (m .forms)
 
   -- What is proved apart: a value is given to an attribute's frame, and to a form's.
-  abbrev pub AttributeMatches : List ℕ → ℕ → Type 0
-  AttributeMatches index attributes =
-      m .returning ≡ true → 0 < m .frames → 5 ≤ word % 8 → (word % 8 ≡ 6 → ⊥)
-      → Matched (attributeDue sheet index attributes budget limit mem m (nodeOf (valueIn (word / 256 % 68719476736))) (word / 8 % 32))
+  abbrev pub AttributeMatches : List ℕ → Type 0
+  AttributeMatches index =
+      m .returning ≡ true → 0 < m .frames → parameterKind ≤ kindOf word → (kindOf word ≡ formKind → ⊥)
+      → Matched (attributeDue sheet index budget limit mem m (nodeOf (valueIn (heldNode word))) (heldAttribute word))
 
   abbrev pub CloseMatches : Type 0
-  CloseMatches = m .returning ≡ true → 0 < m .frames → word % 8 ≡ 6 → Matched (closeForm mem m)
+  CloseMatches = m .returning ≡ true → 0 < m .frames → kindOf word ≡ formKind → Matched (closeForm mem m)
 
   -- A move that opens and closes no form and writes no entry: the machine after it, and the registers.
   abbrev machineAfter : Mode → List ℕ → List Frame → ℕ → Machine
@@ -198,7 +199,7 @@ module _ (sheet question : List ℕ) (budget limit : ℕ) (mem : Memory) (m : Re
       head-matches few parameter-head e fits = form-read (λ o. o .parameter) (inside-form s _ (λ sc. sc .has-parameter) refl fits) (is-read _ e)
       head-matches few no-head e fits = absurd fits
 
-  module _ (index : List ℕ) (attributes : ℕ) (r : Represents sheet index question attributes mem m) where
+  module _ (index : List ℕ) (r : Represents sheet index question mem m) where
     counted : length frames ≡ m .frames
     counted = frames-count sheet question (mem .forms) (mem .words) (m .frames) (m .forms)
 
@@ -206,7 +207,7 @@ module _ (sheet question : List ℕ) (budget limit : ℕ) (mem : Memory) (m : Re
     few = omega (arith, r .holds .counted, r .holds .few)
 
     -- an evaluating machine stands before an expression, and has room for a frame
-    pub read-matches : m .returning ≡ false → Matched (Steps.readNext sheet index attributes mem m bytes)
+    pub read-matches : m .returning ≡ false → Matched (Steps.readNext sheet index mem m bytes)
     unfolding Steps.readNext machineOf modeOf
     read-matches evaluates = go bytes refl
       where
@@ -217,10 +218,10 @@ module _ (sheet question : List ℕ) (budget limit : ℕ) (mem : Memory) (m : Re
         room =
             omega (arith, counted, r .holds .words-size, room-to-push s M (r .good) (r .small) few (ap (λ b. modeOf b (m .value)) evaluates))
 
-        go : (l : List ℕ) → bytes ≡ l → Matched (Steps.readNext sheet index attributes mem m l)
+        go : (l : List ℕ) → bytes ≡ l → Matched (Steps.readNext sheet index mem m l)
         go [] is = none-inside (rw is at (good .0))
         go (c ∷ l) is =
-            head-matches (r .holds) evaluates room c l is (r .index-of .attributes-bound) (headOf c) refl (head-fits (rw is at (good .0)))
+            head-matches (r .holds) evaluates room c l is (r .index-of .described .attributes-bound) (headOf c) refl (head-fits (rw is at (good .0)))
 
     -- ---- Giving a value
 
@@ -283,26 +284,26 @@ module _ (sheet question : List ℕ) (budget limit : ℕ) (mem : Memory) (m : Re
               let (inside, rest) = passed (ready e .0) in
               counts CondFalse _ (is-given e ∙ rw t) λ on. pops false (m .at + skip) (m .steps + 1) (m .value) inside rest (rw e) (rw add-one (by-step CondFalse on))
 
-          give-matches : (packed : ℕ) → PacksIn mem m packed → AttributeMatches index attributes → CloseMatches
-              → Matched (Steps.give sheet index attributes budget limit skip packed mem m word)
+          give-matches : (packed : ℕ) → PacksIn mem m packed → AttributeMatches index → CloseMatches
+              → Matched (Steps.give sheet index budget limit skip packed mem m word)
           unfolding Steps.give give modeOf openForms machineOf
           give-matches packed packs attribute close =
-              either Matched (eqb (word % 8) 0) (λ t. if-matches (top (if-kind word (eqb-true _ _ t))) (truth (m .value)) refl) λ no-if.
-              either Matched (eqb (word % 8) 1) (λ t. left (packs gives some .0 (eqb-true _ _ t)) (top (left-kind word (eqb-true _ _ t)))) λ no-left.
-              either Matched (eqb (word % 8) 2) (λ t. skips (top (skip-kind word (eqb-true _ _ t)))) λ no-skip.
-              either Matched (eqb (word % 8) 3) (λ t. right (top (right-kind word (eqb-true _ _ t)))) λ no-right.
-              either Matched (eqb (word % 8) 4) (λ t. node-given (packs gives some .1 (eqb-true _ _ t)) (top (node-kind word (eqb-true _ _ t)))) λ no-node.
-              either Matched (eqb (word % 8) 6) (λ t. close gives some (eqb-true _ _ t)) λ no-form.
+              either Matched (eqb (kindOf word) ifKind) (λ t. if-matches (top (if-kind word (eqb-true _ _ t))) (truth (m .value)) refl) λ no-if.
+              either Matched (eqb (kindOf word) leftKind) (λ t. left (packs gives some .0 (eqb-true _ _ t)) (top (left-kind word (eqb-true _ _ t)))) λ no-left.
+              either Matched (eqb (kindOf word) skipKind) (λ t. skips (top (skip-kind word (eqb-true _ _ t)))) λ no-skip.
+              either Matched (eqb (kindOf word) rightKind) (λ t. right (top (right-kind word (eqb-true _ _ t)))) λ no-right.
+              either Matched (eqb (kindOf word) nodeKind) (λ t. node-given (packs gives some .1 (eqb-true _ _ t)) (top (node-kind word (eqb-true _ _ t)))) λ no-node.
+              either Matched (eqb (kindOf word) formKind) (λ t. close gives some (eqb-true _ _ t)) λ no-form.
               attribute gives some (late no-if no-left no-skip no-right no-node) (eqb-false _ _ no-form)
             where
-              late : eqb (word % 8) 0 ≡ false → eqb (word % 8) 1 ≡ false → eqb (word % 8) 2 ≡ false → eqb (word % 8) 3 ≡ false → eqb (word % 8) 4 ≡ false
-                  → 5 ≤ word % 8
+              late : eqb (kindOf word) ifKind ≡ false → eqb (kindOf word) leftKind ≡ false → eqb (kindOf word) skipKind ≡ false → eqb (kindOf word) rightKind ≡ false → eqb (kindOf word) nodeKind ≡ false
+                  → parameterKind ≤ kindOf word
               late a b c d e =
-                  let no-if : word % 8 ≡ 0 → ⊥ = eqb-false _ _ a in
-                  let no-left : word % 8 ≡ 1 → ⊥ = eqb-false _ _ b in
-                  let no-skip : word % 8 ≡ 2 → ⊥ = eqb-false _ _ c in
-                  let no-right : word % 8 ≡ 3 → ⊥ = eqb-false _ _ d in
-                  let no-node : word % 8 ≡ 4 → ⊥ = eqb-false _ _ e in
+                  let no-if : kindOf word ≡ ifKind → ⊥ = eqb-false _ _ a in
+                  let no-left : kindOf word ≡ leftKind → ⊥ = eqb-false _ _ b in
+                  let no-skip : kindOf word ≡ skipKind → ⊥ = eqb-false _ _ c in
+                  let no-right : kindOf word ≡ rightKind → ⊥ = eqb-false _ _ d in
+                  let no-node : kindOf word ≡ nodeKind → ⊥ = eqb-false _ _ e in
                   omega arith
 
               left : Packs (m .value) packed → frames ≡ on-left ∷ below → Matched (goes (turned m) (writeWord mem (m .frames - 1) (3 + 8 * packed)))
@@ -318,25 +319,25 @@ module _ (sheet question : List ℕ) (budget limit : ℕ) (mem : Memory) (m : Re
               right e =
                   counts AppApp _ (is-given e) λ on. pops true (m .at) (m .steps + 1) _ (r .holds .from) refl (rw e) (rw add-one (by-step AppApp on))
 
-              node-given : Packs (m .value) packed → frames ≡ on-node (word / 8 % 32) ∷ below
-                  → Matched (goes (turned m) (writeWord mem (m .frames - 1) (5 + 8 * (word / 8 % 32 + 32 * packed))))
+              node-given : Packs (m .value) packed → frames ≡ on-node (heldAttribute word) ∷ below
+                  → Matched (goes (turned m) (writeWord mem (m .frames - 1) (5 + 8 * (heldAttribute word + 32 * packed))))
               node-given value e = turns (m .steps) (parameter-word (mod-lt _ (lit< tt)) value) (rw e) (by-move (is-given e))
 
 -- ---- A move
 
-pub step-matches : (sheet index question : List ℕ) (attributes budget limit skip packed : ℕ) (mem : Memory) (m : Registers)
-    → Represents sheet index question attributes mem m → WidthOf (restOf sheet question (m .forms) (m .at) (m .end)) skip → PacksIn mem m packed
-    → AttributeMatches sheet question budget limit mem m index attributes → CloseMatches sheet question budget limit mem m
+pub step-matches : (sheet index question : List ℕ) (budget limit skip packed : ℕ) (mem : Memory) (m : Registers)
+    → Represents sheet index question mem m → WidthOf (restOf sheet question (m .forms) (m .at) (m .end)) skip → PacksIn mem m packed
+    → AttributeMatches sheet question budget limit mem m index → CloseMatches sheet question budget limit mem m
     → Matches sheet question (length (mem .store) / 12) budget limit m (machineIn sheet question mem m)
-    (stepOf sheet index attributes question budget limit skip packed mem m)
+    (stepOf sheet index question budget limit skip packed mem m)
 unfolding stepOf give framesIn
-step-matches sheet index question attributes budget limit skip packed mem m r width packs attribute close =
+step-matches sheet index question budget limit skip packed mem m r width packs attribute close =
     either (Matched sheet question budget limit mem m) (m .returning)
     (λ gives.
     either (Matched sheet question budget limit mem m) (eqb (m .frames) 0)
-    (λ t. is-given sheet question budget limit mem m index attributes r gives {fs = []} (rw (eqb-true (m .frames) 0 t)))
-    (λ t. give-matches sheet question budget limit mem m index attributes r gives (positive t) skip width packed packs attribute close))
-    (λ evaluates. read-matches sheet question budget limit mem m index attributes r evaluates)
+    (λ t. is-given sheet question budget limit mem m index r gives {fs = []} (rw (eqb-true (m .frames) 0 t)))
+    (λ t. give-matches sheet question budget limit mem m index r gives (positive t) skip width packed packs attribute close))
+    (λ evaluates. read-matches sheet question budget limit mem m index r evaluates)
   where
     positive : eqb (m .frames) 0 ≡ false → 0 < m .frames
     positive t = let no-zero : m .frames ≡ 0 → ⊥ = eqb-false _ _ t in omega arith

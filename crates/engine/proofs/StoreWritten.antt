@@ -6,10 +6,10 @@ use mathlib.Core.Path.{_≡_, refl}
 use Prim.Native.Nat.{ℕ, _+_, _*_, _/_, _≤_, _<_}
 use native.Mathlib.Omega.{arith}
 use lib.Dec.{leb}
-use lib.ListN.{length, take, drop, length-append}
+use lib.ListN.{length, length-append}
 use lib.Seq.{drop-at}
 use borrow.Author.Tests.{leb-true, leb-false, lt-leb}
-use Rattle.saiga.specs.Values.{ofBytes, ofWord, toWord}
+use Rattle.saiga.specs.Values.{ofWord, toWord}
 use Rattle.saiga.specs.declared.Value.{Value}
 use Rattle.saiga.specs.Types.{attributeAt}
 use Rattle.saiga.specs.Sheet.{Sheet, nodeCount, accepted}
@@ -19,7 +19,8 @@ use Rattle.saiga.specs.Store.{entryBytes, checkStore, entriesBytes, leftStore}
 use Rattle.saiga.specs.Sound.{IsA, OccurrenceIn, EntryIn, all-none, all-cons}
 use Rattle.saiga.proofs.Keeping.{write-full}
 use Rattle.saiga.proofs.Entries.{store-in, left-length, left-passes}
-use Rattle.stores.specs.Keys.{Key, findKey}
+use Rattle.stores.specs.declared.Key.{Key}
+use Rattle.stores.specs.Keys.{findKey, valueWord, recordOf, putAt}
 use Rattle.engine.specs.Steps.{appended, unlessFound, cacheWrite}
 
 -- an occurrence in bytes
@@ -30,7 +31,7 @@ keyOf o = record { node = o .node; attribute = o .attribute; word = toWord (o .p
 pub record ByKey (s : Sheet) (store : List ℕ) (k : ℕ) (entries : List Entry) : Type 0 where
   pub missing : (o : Occurrence) → OccurrenceIn (nodeCount s) (s .attributes) o → findKey store k (keyOf o) ≡ none → kept entries o ≡ none
   pub found : (o : Occurrence) (j : ℕ) → OccurrenceIn (nodeCount s) (s .attributes) o → findKey store k (keyOf o) ≡ some j
-      → kept entries o ≡ some (ofWord (attributeAt (s .attributes) (o .attribute) .result) (ofBytes (take 4 (drop (12 * j + 8) store))))
+      → kept entries o ≡ some (ofWord (attributeAt (s .attributes) (o .attribute) .result) (valueWord store j))
 
 -- a store of the same length that passes with the entries `after`
 pub record Written (s : Sheet) (store : List ℕ) (after : List Entry) (w : List ℕ × ℕ) : Type 0 where
@@ -48,7 +49,7 @@ module _ (s : Sheet) (few : nodeCount s ≤ 1024) (store : List ℕ) (k : ℕ) (
 
   -- the bytes of one more entry
   appended-is : appended store k (keyOf o) (toWord v) ≡ leftStore store k (entries ++ new ∷ [])
-  unfolding appended leftStore entryBytes entriesBytes
+  unfolding appended putAt recordOf leftStore entryBytes entriesBytes
   appended-is = rw (drop-at entries (new ∷ []) k count, append-nil, after) refl
     where
       after : 12 * length (entries ++ new ∷ []) ≡ 12 * k + 12

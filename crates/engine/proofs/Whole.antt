@@ -12,11 +12,11 @@ use Rattle.engine.proofs.Attributes.{attribute-matches, close-matches}
 use Rattle.engine.proofs.Kept.{by-key}
 use Rattle.engine.proofs.Steps.{step-matches}
 
-pub step-whole : (sheet index question : List ℕ) (attributes budget limit skip packed : ℕ) (mem : Memory) (m : Registers)
-    → Represents sheet index question attributes mem m → WidthOf (restOf sheet question (m .forms) (m .at) (m .end)) skip → PacksIn mem m packed
+pub step-whole : (sheet index question : List ℕ) (budget limit skip packed : ℕ) (mem : Memory) (m : Registers)
+    → Represents sheet index question mem m → WidthOf (restOf sheet question (m .forms) (m .at) (m .end)) skip → PacksIn mem m packed
     → Matches sheet question (length (mem .store) / 12) budget limit m (machineIn sheet question mem m)
-    (stepOf sheet index attributes question budget limit skip packed mem m)
-step-whole sheet index question attributes budget limit skip packed mem m r width packs =
-    step-matches sheet index question attributes budget limit skip packed mem m r width packs
+    (stepOf sheet index question budget limit skip packed mem m)
+step-whole sheet index question budget limit skip packed mem m r width packs =
+    step-matches sheet index question budget limit skip packed mem m r width packs
     (λ gives some late no-form. attribute-matches r gives some (by-key (sheetOf sheet)) late no-form _ budget limit refl)
     (λ gives some is-form. close-matches r gives some (by-key (sheetOf sheet)) is-form _ budget limit refl)

@@ -4,7 +4,8 @@ use mathlib.Core.List.{List, [], _∷_}
 use mathlib.Core.Path.{_≡_}
 use Prim.Native.Nat.{ℕ, zero, suc, _+_, _*_, _-_, _/_, _%_, _≤_, _<_}
 use lib.Dec.{eqb}
-use lib.ListN.{length, getD}
+use lib.ListN.{length, take, drop, getD}
+use Rattle.saiga.specs.Limits.{depthLimit}
 use Rattle.saiga.specs.Values.{baseOf, ofWord, toWord}
 use Rattle.saiga.specs.declared.Value.{Value}
 use Rattle.saiga.specs.Sheet.{Sheet, emptySheet, Checked, refused_at-place_, accepted, checkSheet}
@@ -12,7 +13,9 @@ use Rattle.saiga.specs.Terms.{Occurrence}
 use Rattle.saiga.specs.Caching.{Entry}
 use Rattle.saiga.specs.Store.{checkStore}
 use Rattle.engine.specs.RunningPiece.{pieceIn, restOf}
+use Rattle.values.specs.Layout.{parameterAt}
 use Rattle.values.specs.Packed.{valueIn}
+use Rattle.engine.specs.FrameWords.{kindOf, ifKind, leftKind, skipKind, rightKind, nodeKind, formKind, heldFunction, heldAttribute, heldNode}
 use Rattle.engine.specs.Machine.{Frame, on-if, on-left, on-skip, on-right, on-node, on-parameter, on-form, Mode, evaluating, returning, Machine, openForms}
 use Rattle.engine.specs.declared.Registers.{Registers}
 
@@ -29,16 +32,35 @@ unfoldable pub entriesOf : Checked (List Entry) → List Entry
 entriesOf (refused number at-place place) = []
 entriesOf (accepted entries) = entries
 
+-- ---- The memory of a run
+
+-- One lent array: the words of the frames, and behind them the open forms, four numbers to each.
+-- A frame stands for a head whose part is being read: at most 256 in each of 65 pieces, the question and the rules of 64 open forms (Bounds.antt).
+abbrev pub frameLimit : ℕ
+frameLimit = 16640
+
+abbrev pub formsSize : ℕ
+formsSize = 256
+
+abbrev pub runSize : ℕ
+runSize = 16896
+
+unfoldable pub wordsIn : List ℕ → List ℕ
+wordsIn run = take frameLimit run
+
+unfoldable pub formsIn : List ℕ → List ℕ
+formsIn run = drop frameLimit run
+
 -- ---- Frames and forms
 
--- A frame's word is its kind and eight times what it holds: a packed value, an attribute's number, or 32 times the one and the other.
+-- the frame of a word, of one that is no form's
 unfoldable pub plainFrame : ℕ → Frame
 plainFrame w =
-    cond (eqb (w % 8) 0) on-if
-    (cond (eqb (w % 8) 1) on-left
-    (cond (eqb (w % 8) 2) on-skip
-    (cond (eqb (w % 8) 3) (on-right (valueIn (w / 8 % 68719476736)))
-    (cond (eqb (w % 8) 4) (on-node (w / 8 % 32)) (on-parameter (valueIn (w / 256 % 68719476736)) (w / 8 % 32))))))
+    cond (eqb (kindOf w) ifKind) on-if
+    (cond (eqb (kindOf w) leftKind) on-left
+    (cond (eqb (kindOf w) skipKind) on-skip
+    (cond (eqb (kindOf w) rightKind) (on-right (valueIn (heldFunction w)))
+    (cond (eqb (kindOf w) nodeKind) (on-node (heldAttribute w)) (on-parameter (valueIn (heldNode w)) (heldAttribute w))))))
 
 -- A form is four words: its occurrence, as node × 32 + attribute and the parameter's four-byte form, and where the piece around it goes on and ends.
 unfoldable pub formOccurrence : List ℕ → List ℕ → ℕ → Occurrence
@@ -47,7 +69,7 @@ formOccurrence sheet forms k =
     record {
       node = pair / 32;
       attribute = pair % 32;
-      parameter = ofWord (baseOf (getD sheet (3 * (pair % 32) + 2) 0)) (getD forms (4 * k + 1) 0);
+      parameter = ofWord (baseOf (parameterAt sheet (pair % 32))) (getD forms (4 * k + 1) 0);
     }
 
 unfoldable pub formRest : List ℕ → List ℕ → List ℕ → ℕ → List ℕ
@@ -57,7 +79,7 @@ formRest sheet question forms k = restOf sheet question k (getD forms (4 * k + 2
 unfoldable pub framesIn : List ℕ → List ℕ → List ℕ → List ℕ → ℕ → ℕ → List Frame
 framesIn sheet question words forms zero k = []
 framesIn sheet question words forms (suc n) k =
-    cond (eqb (getD words n 0 % 8) 6)
+    cond (eqb (kindOf (getD words n 0)) formKind)
     (on-form (formOccurrence sheet forms (k - 1)) (formRest sheet question forms (k - 1)) ∷ framesIn sheet question words forms n (k - 1))
     (plainFrame (getD words n 0) ∷ framesIn sheet question words forms n k)
 
@@ -84,9 +106,9 @@ pub record Placed (sheet question forms : List ℕ) (k : ℕ) : Type 0 where
   pub to : getD forms (4 * k + 3) 0 ≤ length (pieceIn sheet question k)
 
 pub record Holds (sheet question store words forms : List ℕ) (m : Registers) : Type 0 where
-  pub words-size : length words ≡ 16640
-  pub forms-size : length forms ≡ 256
-  pub few : m .forms ≤ 64
+  pub words-size : length words ≡ frameLimit
+  pub forms-size : length forms ≡ formsSize
+  pub few : m .forms ≤ depthLimit
   pub counted : length (openForms (framesIn sheet question words forms (m .frames) (m .forms))) ≡ m .forms
   pub from : m .at ≤ m .end
   pub to : m .end ≤ length (pieceIn sheet question (m .forms))

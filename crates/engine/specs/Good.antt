@@ -3,6 +3,7 @@ use mathlib.Core.List.{List, [], _∷_}
 use mathlib.Core.Path.{_≡_}
 use Prim.Native.Nat.{ℕ, _+_, _≤_}
 use lib.ListN.{length}
+use Rattle.saiga.specs.Limits.{expressionLimit}
 use Rattle.saiga.specs.Expressions.{Expr, Scope, reads, readExpr, expression, readWhole}
 use Rattle.saiga.specs.Sheet.{Sheet, ruleScope, piece-of, definition}
 use Rattle.engine.specs.Machine.{Frame, on-if, on-left, on-skip, on-right, on-node, on-parameter, on-form, Mode, evaluating, returning, Machine, openForms, scopeIn, restAt}
@@ -62,8 +63,8 @@ Waiting (on-skip ∷ fs) = Waiting fs
 Waiting (on-right v ∷ fs) = Waiting fs
 Waiting (on-node a ∷ fs) = Waiting fs
 Waiting (on-parameter v a ∷ fs) = Waiting fs
-Waiting (on-form o outer ∷ fs) = (1 + inPiece fs + length outer ≤ 256) × Waiting fs
+Waiting (on-form o outer ∷ fs) = (1 + inPiece fs + length outer ≤ expressionLimit) × Waiting fs
 
 -- and for the running piece, of which a returning machine has read a byte more than it has frames
 abbrev pub Small : Machine → Type 0
-Small m = (inPiece (m .frames) + length (m .rest) ≤ 256) × Waiting (m .frames)
+Small m = (inPiece (m .frames) + length (m .rest) ≤ expressionLimit) × Waiting (m .frames)

@@ -1,8 +1,10 @@
 pub mod Machine
 pub mod Good
 pub mod RunningPiece
+pub mod FrameWords
 pub mod Decode
 pub mod Steps
 pub mod Represents
 pub mod Ready
 pub mod Loop
+pub mod CodeSteps

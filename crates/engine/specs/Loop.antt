@@ -4,6 +4,7 @@ use mathlib.Core.List.{List}
 use mathlib.Core.Path.{_≡_}
 use Prim.Native.Nat.{ℕ, _/_, _≤_}
 use lib.ListN.{length}
+use Rattle.saiga.specs.Limits.{entryWidth}
 use Rattle.saiga.specs.declared.Value.{Value}
 use Rattle.saiga.specs.Sheet.{context}
 use Rattle.saiga.specs.Caching.{Ending, Ended}
@@ -17,10 +18,10 @@ use Rattle.engine.specs.Represents.{machineIn, Represents}
 
 -- A call was lent the store `first` with `lent` kept entries, and its run ends as `whole`. Registers and memory hold a machine on that
 -- run, and the store holds the bytes that a call leaves which keeps what the machine keeps.
-pub record Invariant (sheet index question : List ℕ) (attributes budget : ℕ) (first : List ℕ) (lent : ℕ) (whole : Ended) (mem : Memory) (m : Registers)
+pub record Invariant (sheet index question : List ℕ) (budget : ℕ) (first : List ℕ) (lent : ℕ) (whole : Ended) (mem : Memory) (m : Registers)
     : Type 0 where
-  pub represents : Represents sheet index question attributes mem m
-  pub runs : Runs (context (sheetOf sheet)) (length first / 12) budget (stateOf (sheetOf sheet) (machineIn sheet question mem m)) whole
+  pub represents : Represents sheet index question mem m
+  pub runs : Runs (context (sheetOf sheet)) (length first / entryWidth) budget (stateOf (sheetOf sheet) (machineIn sheet question mem m)) whole
   pub left : mem .store ≡ leftStore first lent (machineIn sheet question mem m .entries)
   pub room : length (mem .store) ≡ length first
   pub lent-kept : lent ≤ m .kept

@@ -8,6 +8,7 @@ use mathlib.Core.List.{List, [], _∷_}
 use Prim.Native.Nat.{ℕ, suc}
 use lib.Dec.{leb, ltb, eqb}
 use lib.ListN.{length, take, drop, getD}
+use Rattle.saiga.specs.Limits.{depthLimit}
 use Rattle.saiga.specs.Values.{null, functionOf, ofBytes, ofWord, truth, nodeOf, apply}
 use Rattle.saiga.specs.declared.Value.{Value}
 use Rattle.saiga.specs.declared.Value.the-variants.{Unit as unit, Node as node, Function as function}
@@ -151,7 +152,7 @@ module _ (s : Sheet) (capacity budget : ℕ) (m : Machine) where
   attributeDue o fs =
       Bool.cond (eqb (o .node) null) (stops null-node)
       (Bool.cond (ltb (m .steps) budget)
-      (Bool.cond (leb 64 (length (openForms fs))) (stops depth)
+      (Bool.cond (leb depthLimit (length (openForms fs))) (stops depth)
       (takes (AttrApp (o .attribute)) (applied o fs (kept (m .entries) o))))
       (stops spent))
 

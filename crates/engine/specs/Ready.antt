@@ -3,62 +3,79 @@ use mathlib.Core.Bool.{true}
 use mathlib.Core.List.{List}
 use mathlib.Core.Path.{_≡_}
 use Prim.Native.Nat.{ℕ, _+_, _*_, _-_, _/_, _%_, _≤_, _<_}
-use lib.ListN.{length, getD, set}
-use Rattle.saiga.specs.Values.{baseOf, isWord}
+use lib.ListN.{length, getD}
+use Rattle.saiga.specs.Limits.{nodeLimit, depthLimit}
+use Rattle.saiga.specs.Values.{wordLimit, baseOf, isWord}
 use Rattle.saiga.specs.Expressions.{Head, base-literal, function-literal, if-head, application-head, attribute-head, this-head, parameter-head, no-head, headOf}
+use Rattle.values.specs.Layout.{parameterAt}
 use Rattle.expressions.specs.Widths.{headWidth}
 use Rattle.engine.specs.Represents.{WidthOf, Packs}
-use Rattle.engine.specs.Steps.{Memory}
+use Rattle.engine.specs.Decode.{frameLimit, runSize, wordsIn, formsIn}
+use Rattle.engine.specs.Steps.{Memory, writeWord}
 use Rattle.engine.specs.declared.Registers.{Registers}
 
-abbrev pub memoryOf : List ℕ → List ℕ → List ℕ → Memory
-memoryOf store words forms = record { store = store; words = words; forms = forms }
+-- the memory that a store and the array of a run are
+abbrev pub memoryOf : List ℕ → List ℕ → Memory
+memoryOf store run = record { store = store; words = wordsIn run; forms = formsIn run }
+
+-- ---- The innermost form
+
+-- where its four numbers stand in the array of the run, and the first of them: node × 32 + attribute
+abbrev pub innermostPlace : Registers → ℕ
+innermostPlace m = frameLimit + 4 * (m .forms - 1)
+
+abbrev pub innermostPair : List ℕ → Registers → ℕ
+innermostPair run m = getD run (innermostPlace m) 0
+
+-- A form is open, and its node is a Node's number.
+pub record NodeReady (run : List ℕ) (m : Registers) : Type 0 where
+  pub size : length run ≡ runSize
+  pub opened : 1 ≤ m .forms
+  pub few : m .forms ≤ depthLimit
+  pub small : innermostPair run m / 32 < 65536
+
+-- And its parameter's word is one of the type that the sheet has for its attribute.
+pub record ParameterReady (sheet run : List ℕ) (m : Registers) : Type 0 where
+  pub node : NodeReady run m
+  pub declared : 3 * (innermostPair run m % 32) + 2 < length sheet
+  pub word : isWord nodeLimit (baseOf (parameterAt sheet (innermostPair run m % 32))) (getD run (innermostPlace m + 1) 0) ≡ true
+  pub word-small : getD run (innermostPlace m + 1) 0 < wordLimit
 
 -- ---- Reading a head
 
--- the first word of the innermost form: node × 32 + attribute
-abbrev pub innermostPair : List ℕ → Registers → ℕ
-innermostPair forms m = getD forms (4 * (m .forms - 1)) 0
-
--- A form is open, and its node is a Node's number.
-pub record NodeReady (forms : List ℕ) (m : Registers) : Type 0 where
-  pub opened : 1 ≤ m .forms
-  pub placed : 4 * m .forms ≤ length forms
-  pub small : innermostPair forms m / 32 < 65536
-
--- A form is open, and its parameter's word is one of the type that the sheet has for its attribute.
-pub record ParameterReady (sheet forms : List ℕ) (m : Registers) : Type 0 where
-  pub opened : 1 ≤ m .forms
-  pub placed : 4 * m .forms ≤ length forms
-  pub declared : 3 * (innermostPair forms m % 32) + 2 < length sheet
-  pub word : isWord 1024 (baseOf (getD sheet (3 * (innermostPair forms m % 32) + 2) 0)) (getD forms (4 * (m .forms - 1) + 1) 0) ≡ true
-
 -- what a head needs besides its operand
 abbrev pub HeadReady : List ℕ → List ℕ → Registers → Head → Type 0
-HeadReady sheet forms m (base-literal t) = Unit {0}
-HeadReady sheet forms m function-literal = Unit {0}
-HeadReady sheet forms m if-head = Unit {0}
-HeadReady sheet forms m application-head = Unit {0}
-HeadReady sheet forms m attribute-head = Unit {0}
-HeadReady sheet forms m this-head = NodeReady forms m
-HeadReady sheet forms m parameter-head = ParameterReady sheet forms m
-HeadReady sheet forms m no-head = ⊥
+HeadReady sheet run m (base-literal t) = Unit {0}
+HeadReady sheet run m function-literal = Unit {0}
+HeadReady sheet run m if-head = Unit {0}
+HeadReady sheet run m application-head = Unit {0}
+HeadReady sheet run m attribute-head = Unit {0}
+HeadReady sheet run m this-head = NodeReady run m
+HeadReady sheet run m parameter-head = ParameterReady sheet run m
+HeadReady sheet run m no-head = ⊥
 
 -- `e` is the rest of the running piece: a head with its operand stands there, and there is room for a frame.
-pub record ReadReady (sheet e words forms : List ℕ) (m : Registers) : Type 0 where
+pub record ReadReady (sheet e run : List ℕ) (m : Registers) : Type 0 where
   pub some : 0 < length e
   pub operand : headWidth (headOf (getD e 0 0)) ≤ length e
   pub inside : m .at + length e ≤ m .end
-  pub room : m .frames < length words
-  pub head : HeadReady sheet forms m (headOf (getD e 0 0))
+  pub size : length run ≡ runSize
+  pub room : m .frames < frameLimit
+  pub head : HeadReady sheet run m (headOf (getD e 0 0))
 
 -- ---- Giving a value
 
+-- There is a frame, and the array of the run has its length.
+pub record FrameReady (run : List ℕ) (m : Registers) : Type 0 where
+  pub size : length run ≡ runSize
+  pub framed : 1 ≤ m .frames
+  pub inside : m .frames ≤ frameLimit
+
 -- The innermost frame's word is made another, which holds the value in a word.
-pub record Rewrites (m : Registers) (entry exit : List ℕ) (word : ℕ → ℕ) : Type 0 where
+pub record Rewrites (m : Registers) (run run′ : List ℕ) (word : ℕ → ℕ) : Type 0 where
   pub packed : ℕ
   pub packs : Packs (m .value) packed
-  pub written : exit ≡ set entry (m .frames - 1) (word packed)
+  pub written : (store : List ℕ) → memoryOf store run′ ≡ writeWord (memoryOf store run) (m .frames - 1) (word packed)
 
 -- what holds of the width of the expression at the front of the rest
 pub record Passes (e : List ℕ) (P : ℕ → Type 0) : Type 0 where

@@ -2,8 +2,9 @@
 use mathlib.Core.Bool.{true}
 use mathlib.Core.List.{List}
 use mathlib.Core.Path.{_≡_}
-use Prim.Native.Nat.{ℕ, _-_, _/_, _%_, _≤_, _<_}
+use Prim.Native.Nat.{ℕ, _-_, _/_, _≤_, _<_}
 use lib.ListN.{length, getD}
+use Rattle.saiga.specs.Limits.{entryWidth}
 use Rattle.saiga.specs.Values.{Base, base}
 use Rattle.saiga.specs.declared.Value.{Value}
 use Rattle.saiga.specs.Expressions.{Expr, Scope, reads, readExpr}
@@ -12,7 +13,8 @@ use Rattle.saiga.specs.Caching.{Reason}
 use Rattle.saiga.specs.Ask.{reasonNumber}
 use Rattle.saiga.specs.Sound.{RunningIn}
 use Rattle.sheets.specs.Scan.{Indexed}
-use Rattle.values.specs.Packed.{valueIn}
+use Rattle.values.specs.Packed.{valueIn, packedLimit}
+use Rattle.engine.specs.FrameWords.{kindOf, leftKind, nodeKind}
 use Rattle.engine.specs.Machine.{Machine, finishes, stops, move, stateOf}
 use Rattle.engine.specs.Decode.{sheetOf, machineOf, Holds}
 use Rattle.engine.specs.Steps.{Memory, Stepped, goes, waits}
@@ -28,10 +30,9 @@ abbrev pub HoldsIn : List ℕ → List ℕ → Memory → Registers → Type 0
 HoldsIn sheet question mem m = Holds sheet question (mem .store) (mem .words) (mem .forms) m
 
 -- The sheet is accepted and indexed; registers and memory hold a machine that reads expressions, is small and is of a type.
-pub record Represents (sheet index question : List ℕ) (attributes : ℕ) (mem : Memory) (m : Registers) : Type 0 where
+pub record Represents (sheet index question : List ℕ) (mem : Memory) (m : Registers) : Type 0 where
   pub accepts : checkSheet sheet ≡ accepted (sheetOf sheet)
   pub index-of : Indexed sheet (sheetOf sheet) index
-  pub attributes-are : attributeCount (sheetOf sheet) ≡ attributes
   pub holds : HoldsIn sheet question mem m
   pub good : Good (sheetOf sheet) (machineIn sheet question mem m)
   pub small : Small (machineIn sheet question mem m)
@@ -42,7 +43,7 @@ pub record Represents (sheet index question : List ℕ) (attributes : ℕ) (mem 
 module _ (sheet question : List ℕ) (capacity budget limit : ℕ) (m : Registers) (M : Machine) where
   abbrev pub Matches : Stepped → Type 0
   Matches (goes m′ mem′) =
-      Next (sheetOf sheet) capacity budget M (machineIn sheet question mem′ m′) × HoldsIn sheet question mem′ m′ × (length (mem′ .store) / 12 ≡ capacity)
+      Next (sheetOf sheet) capacity budget M (machineIn sheet question mem′ m′) × HoldsIn sheet question mem′ m′ × (length (mem′ .store) / entryWidth ≡ capacity)
   Matches waits = (limit ≤ m .steps) × (m .steps < budget)
   Matches Stepped.finishes = move (sheetOf sheet) capacity budget M ≡ finishes (m .value)
   Matches (Stepped.stops n) = (r : Reason) × (move (sheetOf sheet) capacity budget M ≡ stops r) × (reasonNumber r ≡ n)
@@ -53,10 +54,10 @@ WidthOf l skip = (sc : Scope) (f : Expr) (w : ℕ) → readExpr sc (length l) l 
 
 -- a value in a word
 abbrev pub Packs : Value → ℕ → Type 0
-Packs v p = (valueIn p ≡ v) × (p < 68719476736)
+Packs v p = (valueIn p ≡ v) × (p < packedLimit)
 
 -- where a value is given to an application's or an attribute's frame, which is made one that holds it
 abbrev pub PacksIn : Memory → Registers → ℕ → Type 0
 PacksIn mem m p =
-    let kind = getD (mem .words) (m .frames - 1) 0 % 8 in
-    m .returning ≡ true → 0 < m .frames → (kind ≡ 1 → Packs (m .value) p) × (kind ≡ 4 → Packs (m .value) p)
+    let kind = kindOf (getD (mem .words) (m .frames - 1) 0) in
+    m .returning ≡ true → 0 < m .frames → (kind ≡ leftKind → Packs (m .value) p) × (kind ≡ nodeKind → Packs (m .value) p)

@@ -1,18 +1,22 @@
 -- One move of the machine on registers and lent memory, as the code makes it. Steps.antt of proofs/ shows that it is a move of Machine.antt.
 use mathlib.Core.Bool.{Bool, true, false, cond}
 use mathlib.Core.Option.{Option, none, some}
-use mathlib.Core.List.{List, [], _∷_, _++_}
+use mathlib.Core.List.{List, [], _∷_}
 use Prim.Native.Nat.{ℕ, _+_, _*_, _-_, _/_, _%_}
 use lib.Dec.{leb, eqb}
 use lib.ListN.{length, take, drop, getD, set}
-use Rattle.saiga.specs.Values.{null, functionOf, baseOf, ofBytes, toBytes, ofWord, toWord, truth, nodeOf, apply}
+use Rattle.saiga.specs.Limits.{entryWidth, depthLimit}
+use Rattle.saiga.specs.Values.{null, functionOf, baseOf, ofBytes, ofWord, toWord, truth, nodeOf, apply}
 use Rattle.saiga.specs.declared.Value.{Value}
 use Rattle.saiga.specs.declared.Value.the-variants.{Node as node, Function as function}
 use Rattle.saiga.specs.Expressions.{Head, base-literal, function-literal, if-head, application-head, attribute-head, this-head, parameter-head, no-head, headOf, operandWidth}
 use Rattle.engine.specs.RunningPiece.{restOf}
+use Rattle.values.specs.Layout.{resultAt}
 use Rattle.values.specs.Packed.{valueIn}
-use Rattle.sheets.specs.Scan.{figurePlace, rulePlace, figureAt, indexed}
-use Rattle.stores.specs.Keys.{Key, findKey}
+use Rattle.engine.specs.FrameWords.{kindOf, ifKind, leftKind, skipKind, rightKind, nodeKind, formKind, rightWord, heldFunction, nodeWord, heldAttribute, parameterWord, heldNode}
+use Rattle.sheets.specs.Scan.{figurePlace, figureAt, indexed, ruleNumber}
+use Rattle.stores.specs.declared.Key.{Key}
+use Rattle.stores.specs.Keys.{findKey, valueWord, recordOf, putAt}
 use Rattle.engine.specs.Decode.{formOccurrence}
 use Rattle.engine.specs.declared.Registers.{Registers}
 
@@ -59,9 +63,9 @@ thisParameter sheet forms m = formOccurrence sheet forms (m .forms - 1) .paramet
 unfoldable pub readHead : List ℕ → Memory → Registers → Head → List ℕ → Stepped
 readHead sheet mem m (base-literal t) l = goes (returned m (1 + operandWidth t) (ofWord t (ofBytes (take (operandWidth t) l)))) mem
 readHead sheet mem m function-literal l = goes (returned m 2 (function (functionOf (getD l 0 0)))) mem
-readHead sheet mem m if-head l = goes (pushed m 1) (writeWord mem (m .frames) 0)
-readHead sheet mem m application-head l = goes (pushed m 1) (writeWord mem (m .frames) 1)
-readHead sheet mem m attribute-head l = goes (pushed m 2) (writeWord mem (m .frames) (4 + 8 * getD l 0 0))
+readHead sheet mem m if-head l = goes (pushed m 1) (writeWord mem (m .frames) ifKind)
+readHead sheet mem m application-head l = goes (pushed m 1) (writeWord mem (m .frames) leftKind)
+readHead sheet mem m attribute-head l = goes (pushed m 2) (writeWord mem (m .frames) (nodeWord (getD l 0 0)))
 readHead sheet mem m this-head l = goes (returned m 1 (thisNode (mem .forms) m)) mem
 readHead sheet mem m parameter-head l = goes (returned m 1 (thisParameter sheet (mem .forms) m)) mem
 readHead sheet mem m no-head l = waits
@@ -75,8 +79,7 @@ turned m =
 
 -- CacheWrite on bytes: the store and the kept number after it
 unfoldable pub appended : List ℕ → ℕ → Key → ℕ → List ℕ
-appended store kept q value =
-    take (12 * kept) store ++ (toBytes 2 (q .node) ++ q .attribute ∷ 0 ∷ toBytes 4 (q .word) ++ toBytes 4 value) ++ drop (12 * kept + 12) store
+appended store kept q value = putAt store kept (recordOf q value)
 
 unfoldable pub unlessFound : List ℕ → ℕ → Key → ℕ → Option ℕ → List ℕ × ℕ
 unlessFound store kept q value none = (appended store kept q value, kept + 1)
@@ -84,7 +87,7 @@ unlessFound store kept q value (some j) = (store, kept)
 
 unfoldable pub cacheWrite : List ℕ → ℕ → Key → ℕ → List ℕ × ℕ
 cacheWrite store kept q value =
-    cond (leb (length store / 12) kept) (store, kept) (unlessFound store kept q value (findKey store kept q))
+    cond (leb (length store / entryWidth) kept) (store, kept) (unlessFound store kept q value (findKey store kept q))
 
 unfoldable pub closeForm : Memory → Registers → Stepped
 closeForm mem m =
@@ -106,7 +109,7 @@ closeForm mem m =
 unfoldable pub takeIf : ℕ → Memory → Registers → Bool → Stepped
 takeIf skip mem m true =
     goes record { returning = false; at = m .at; end = m .end; frames = m .frames; forms = m .forms; kept = m .kept; steps = m .steps + 1; value = m .value }
-    (writeWord mem (m .frames - 1) 2)
+    (writeWord mem (m .frames - 1) skipKind)
 takeIf skip mem m false =
     goes record { returning = false; at = m .at + skip; end = m .end; frames = m .frames - 1; forms = m .forms; kept = m .kept; steps = m .steps + 1; value = m .value } mem
 
@@ -114,20 +117,17 @@ takeIf skip mem m false =
 unfoldable pub within : ℕ → ℕ → Registers → Stepped → Stepped
 within budget limit m next = cond (leb budget (m .steps)) (stops 15) (cond (leb limit (m .steps)) waits next)
 
-module _ (sheet index : List ℕ) (attributes : ℕ) where
-  -- the rule for a node's kind and an attribute: the offset of its command, and one
-  abbrev pub ruleIndex : ℕ → ℕ → ℕ
-  ruleIndex n a = getD index (rulePlace (getD sheet (3 * attributes + 2 * n + 1) 0) a) 0
-
+module _ (sheet index : List ℕ) where
   -- AttrApp of an occurrence that is not kept: its figure, or its rule inside a form
   unfoldable pub openRule : Memory → Registers → ℕ → ℕ → ℕ → Stepped
   openRule mem m n a word =
       let f = 4 * m .forms in
-      let start = ruleIndex n a + 4 in
+      let number = ruleNumber sheet index n a in
+      let start = number + 4 in
       goes record {
         returning = false;
         at = start;
-        end = start + ofBytes (take 2 (drop (ruleIndex n a + 2) sheet));
+        end = start + ofBytes (take 2 (drop (number + 2) sheet));
         frames = m .frames;
         forms = m .forms + 1;
         kept = m .kept;
@@ -135,7 +135,7 @@ module _ (sheet index : List ℕ) (attributes : ℕ) where
         value = m .value;
       } record {
         store = mem .store;
-        words = set (mem .words) (m .frames - 1) 6;
+        words = set (mem .words) (m .frames - 1) formKind;
         forms = set (set (set (set (mem .forms) f (n * 32 + a)) (f + 1) word) (f + 2) (m .at)) (f + 3) (m .end);
       }
 
@@ -150,13 +150,13 @@ module _ (sheet index : List ℕ) (attributes : ℕ) where
   takeKept mem m n a none =
       openFigure mem m n a (toWord (m .value)) (indexed (getD index (figurePlace n a) 0) (figureAt sheet a))
   takeKept mem m n a (some j) =
-      goes (answered m (m .kept) (ofWord (baseOf (getD sheet (3 * a + 1) 0)) (ofBytes (take 4 (drop (12 * j + 8) (mem .store)))))) mem
+      goes (answered m (m .kept) (ofWord (baseOf (resultAt sheet a)) (valueWord (mem .store) j))) mem
 
   unfoldable pub attributeDue : ℕ → ℕ → Memory → Registers → ℕ → ℕ → Stepped
   attributeDue budget limit mem m n a =
       cond (eqb n null) (stops 14)
       (cond (leb budget (m .steps)) (stops 15)
-      (cond (leb 64 (m .forms)) (stops 16)
+      (cond (leb depthLimit (m .forms)) (stops 16)
       (cond (leb limit (m .steps)) waits
       (takeKept mem m n a (findKey (mem .store) (m .kept) record { node = n; attribute = a; word = toWord (m .value) })))))
 
@@ -164,15 +164,15 @@ module _ (sheet index : List ℕ) (attributes : ℕ) where
   -- the value in a word.
   unfoldable pub give : ℕ → ℕ → ℕ → ℕ → Memory → Registers → ℕ → Stepped
   give budget limit skip packed mem m w =
-      cond (eqb (w % 8) 0) (within budget limit m (takeIf skip mem m (truth (m .value))))
-      (cond (eqb (w % 8) 1) (goes (turned m) (writeWord mem (m .frames - 1) (3 + 8 * packed)))
-      (cond (eqb (w % 8) 2)
+      cond (eqb (kindOf w) ifKind) (within budget limit m (takeIf skip mem m (truth (m .value))))
+      (cond (eqb (kindOf w) leftKind) (goes (turned m) (writeWord mem (m .frames - 1) (rightWord packed)))
+      (cond (eqb (kindOf w) skipKind)
       (goes record { returning = true; at = m .at + skip; end = m .end; frames = m .frames - 1; forms = m .forms; kept = m .kept; steps = m .steps; value = m .value } mem)
-      (cond (eqb (w % 8) 3)
-      (within budget limit m (goes (answered m (m .kept) (apply (valueIn (w / 8 % 68719476736)) (m .value))) mem))
-      (cond (eqb (w % 8) 4) (goes (turned m) (writeWord mem (m .frames - 1) (5 + 8 * (w / 8 % 32 + 32 * packed))))
-      (cond (eqb (w % 8) 6) (closeForm mem m)
-      (attributeDue budget limit mem m (nodeOf (valueIn (w / 256 % 68719476736))) (w / 8 % 32)))))))
+      (cond (eqb (kindOf w) rightKind)
+      (within budget limit m (goes (answered m (m .kept) (apply (valueIn (heldFunction w)) (m .value))) mem))
+      (cond (eqb (kindOf w) nodeKind) (goes (turned m) (writeWord mem (m .frames - 1) (parameterWord (heldAttribute w) packed)))
+      (cond (eqb (kindOf w) formKind) (closeForm mem m)
+      (attributeDue budget limit mem m (nodeOf (valueIn (heldNode w))) (heldAttribute w)))))))
 
   unfoldable pub readNext : Memory → Registers → List ℕ → Stepped
   readNext mem m [] = waits

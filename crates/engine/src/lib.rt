@@ -1,4 +1,9 @@
 // The evaluator: a machine with explicit frames in lent memory (document 01, "The steps").
+pub mod frames;
+
+use frames::ON_IF;
+use frames::ON_LEFT;
+use frames::ON_SKIP;
 use saiga::Value;
 ghost use mathlib.Core.List.{List};
 ghost use mathlib.Core.Path.{_≡_};
@@ -6,10 +11,12 @@ ghost use Prim.Native.Nat.{ℕ, _+_, _*_, _/_, _%_, _^_, _≤_, _<_};
 ghost use lib.ListN.{length};
 ghost use Rattle.saiga.specs.Values.{truth, apply as applied};
 ghost use Rattle.values.specs.Packed.{valueIn};
+ghost use Rattle.engine.specs.FrameWords.{rightWord, heldFunction, parameterWord};
 ghost use Rattle.expressions.specs.Widths.{Starts};
 ghost use Rattle.engine.specs.RunningPiece.{pieceIn, restOf};
 ghost use Rattle.engine.specs.Steps.{goes, returned as returnedTo, pushed as pushedOn, answered as answeredBy, turned as turnedTo, thisNode, thisParameter, readNext, takeIf};
-ghost use Rattle.engine.specs.Ready.{memoryOf, NodeReady, ParameterReady, ReadReady, Rewrites, Passes, skipped};
+ghost use Rattle.engine.specs.Decode.{formsIn};
+ghost use Rattle.engine.specs.Ready.{memoryOf, NodeReady, ParameterReady, ReadReady, FrameReady, Rewrites, Passes, skipped};
 
 // The machine's state by value: whether a value is being returned, the rest of the running piece from `at` to `end`, the numbers of
 // frames, open forms, kept entries and counted steps, and the value.
@@ -24,18 +31,25 @@ pub struct Registers {
     pub value: Value,
 }
 
-// A frame is a word: its kind, and eight times what it holds.
-const ON_IF: u64 = 0;
+// How far a run may go: the counted steps that it has in all, and the count at which it pauses.
+pub struct Limits {
+    pub budget: usize,
+    pub pause: usize,
+}
 
-const ON_LEFT: u64 = 1;
+// What a move comes to: registers to go on with; a counted step is due at the limit; the value is the run's; or a stop's number.
+pub enum Step {
+    Goes(Registers),
+    Waits,
+    Finishes,
+    Stops(u32),
+}
 
-const ON_SKIP: u64 = 2;
+// The memory of a run is one array: the words of the frames, and behind them four numbers for each form that can be open: its node × 32 + attribute, its
+// parameter in four bytes, and where the piece around it goes on and ends.
+pub const FRAME_LIMIT: usize = 16640;
 
-const ON_RIGHT: u64 = 3;
-
-const ON_NODE: u64 = 4;
-
-const ON_PARAMETER: u64 = 5;
+pub const RUN_SIZE: usize = 16896;
 
 // The rest of the running piece: of the question while no form is open, of the sheet inside a form.
 pub fn running<'a>(
@@ -124,36 +138,29 @@ fn turned(m: Registers) -> Registers
 }
 
 // 0x30 and 0x31 inside a form: the node and the parameter of the innermost one.
-fn this_node(forms: &[u32], m: Registers) -> Value
-    requires { ⌜ NodeReady (now forms) m ⌝ }
-    ensures { λ r. ⌜ r ≡ thisNode (now (forms .entry)) m ⌝ }
+fn this_node(memory: &[u64], m: Registers) -> Value
+    requires { ⌜ NodeReady (now memory) m ⌝ }
+    ensures { λ r. ⌜ r ≡ thisNode (formsIn (now (memory .entry))) m ⌝ }
 {
-    let f = 4 * (m.forms - 1);
-    Value::Node((forms[f] / 32) as u16)
+    let f = FRAME_LIMIT + 4 * (m.forms - 1);
+    Value::Node((memory[f] / 32) as u16)
 }
 
-fn this_parameter(sheet: &[u8], forms: &[u32], m: Registers) -> Value
-    requires { ⌜ ParameterReady (now sheet) (now forms) m ⌝ }
-    ensures { λ r. ⌜ r ≡ thisParameter (now (sheet .entry)) (now (forms .entry)) m ⌝ }
+fn this_parameter(sheet: &[u8], memory: &[u64], m: Registers) -> Value
+    requires { ⌜ ParameterReady (now sheet) (now memory) m ⌝ }
+    ensures { λ r. ⌜ r ≡ thisParameter (now (sheet .entry)) (formsIn (now (memory .entry))) m ⌝ }
 {
-    let f = 4 * (m.forms - 1);
-    let a = (forms[f] % 32) as usize;
-    values::value_of(sheet[3 * a + 2], forms[f + 1])
+    let f = FRAME_LIMIT + 4 * (m.forms - 1);
+    let a = (memory[f] % 32) as usize;
+    values::value_of(values::parameter_at(sheet, a), memory[f + 1] as u32)
 }
 
 // A head is read, with its operand. `e` is the rest of the running piece.
-pub fn read_head(
-    sheet: &[u8],
-    e: &[u8],
-    frames: &mut [u64],
-    forms: &[u32],
-    m: Registers,
-) -> Registers
-    requires { ⌜ ReadReady (now sheet) (now e) (now frames) (now forms) m ⌝ }
-    ensures { λ r. ⌜ ((index : List ℕ) (attributes : ℕ) (store : List ℕ)
-        → goes r (memoryOf store (now (frames .exit)) (now (forms .entry)))
-        ≡ readNext (now (sheet .entry)) index attributes (memoryOf store (now (frames .entry)) (now (forms .entry))) m (now (e .entry))) ⌝ }
-    ensures { λ r. ⌜ length (now (frames .exit)) ≡ length (now (frames .entry)) ⌝ }
+pub fn read_head(sheet: &[u8], e: &[u8], memory: &mut [u64], m: Registers) -> Registers
+    requires { ⌜ ReadReady (now sheet) (now e) (now memory) m ⌝ }
+    ensures { λ r. ⌜ ((index : List ℕ) (store : List ℕ)
+        → goes r (memoryOf store (now (memory .exit)))
+        ≡ readNext (now (sheet .entry)) index (memoryOf store (now (memory .entry))) m (now (e .entry))) ⌝ }
 {
     let top = m.frames;
     let head = e[0];
@@ -164,45 +171,45 @@ pub fn read_head(
         0x13 => returned(m, 3, Value::Node(values::two(e, 1) as u16)),
         0x14 => returned(m, 2, Value::Function(values::function_of(e[1] as u32))),
         0x20 => {
-            frames[top] = ON_IF;
+            memory[top] = ON_IF;
             pushed(m, 1)
         }
         0x21 => {
-            frames[top] = ON_LEFT;
+            memory[top] = ON_LEFT;
             pushed(m, 1)
         }
         0x22 => {
-            frames[top] = ON_NODE + 8 * (e[1] as u64);
+            memory[top] = frames::on_node(e[1] as u64);
             pushed(m, 2)
         }
-        0x30 => returned(m, 1, this_node(forms, m)),
-        _ => returned(m, 1, this_parameter(sheet, forms, m)),
+        0x30 => returned(m, 1, this_node(memory, m)),
+        _ => returned(m, 1, this_parameter(sheet, memory, m)),
     }
 }
 
 // ---- A value is given to the innermost frame
 
 // An application's function: its argument comes next.
-pub fn take_left(frames: &mut [u64], m: Registers) -> Registers
-    requires { ⌜ (1 ≤ m .frames) × (m .frames ≤ length (now frames)) ⌝ }
+pub fn take_left(memory: &mut [u64], m: Registers) -> Registers
+    requires { ⌜ FrameReady (now memory) m ⌝ }
     ensures { λ r. ⌜ r ≡ turnedTo m ⌝ }
-    ensures { λ r. ⌜ Rewrites m (now (frames .entry)) (now (frames .exit)) (λ packed. 3 + 8 * packed) ⌝ }
+    ensures { λ r. ⌜ Rewrites m (now (memory .entry)) (now (memory .exit)) rightWord ⌝ }
 {
     let top = m.frames - 1;
     let value = m.value;
-    frames[top] = ON_RIGHT + 8 * values::packed::pack(value);
+    memory[top] = frames::on_right(values::packed::pack(value));
     turned(m)
 }
 
 // An attribute's node: the parameter comes next. `a` is the attribute's number.
-pub fn take_node(frames: &mut [u64], m: Registers, a: u64) -> Registers
-    requires { ⌜ (1 ≤ m .frames) × (m .frames ≤ length (now frames)) × (a < 32) ⌝ }
+pub fn take_node(memory: &mut [u64], m: Registers, a: u64) -> Registers
+    requires { ⌜ FrameReady (now memory) m × (a < 32) ⌝ }
     ensures { λ r. ⌜ r ≡ turnedTo m ⌝ }
-    ensures { λ r. ⌜ Rewrites m (now (frames .entry)) (now (frames .exit)) (λ packed. 5 + 8 * (a + 32 * packed)) ⌝ }
+    ensures { λ r. ⌜ Rewrites m (now (memory .entry)) (now (memory .exit)) (parameterWord a) ⌝ }
 {
     let top = m.frames - 1;
     let value = m.value;
-    frames[top] = ON_PARAMETER + 8 * (a + 32 * values::packed::pack(value));
+    memory[top] = frames::on_parameter(a, values::packed::pack(value));
     turned(m)
 }
 
@@ -226,17 +233,16 @@ pub fn take_skip(e: &[u8], m: Registers) -> Registers
 }
 
 // IF: the first branch is evaluated and the second passed over after it, or the first is passed over.
-pub fn take_if(e: &[u8], frames: &mut [u64], m: Registers) -> Registers
+pub fn take_if(e: &[u8], memory: &mut [u64], m: Registers) -> Registers
     requires { ⌜ Starts (now e) ⌝ }
-    requires { ⌜ (1 ≤ m .frames) × (m .frames ≤ length (now frames)) × (m .at + length (now e) < 2 ^ 64) × (m .steps + 1 < 2 ^ 64) ⌝ }
-    ensures { λ r. ⌜ Passes (now (e .entry)) (λ skip. (store forms : List ℕ)
-        → goes r (memoryOf store (now (frames .exit)) forms) ≡ takeIf skip (memoryOf store (now (frames .entry)) forms) m (truth (m .value))) ⌝ }
-    ensures { λ r. ⌜ length (now (frames .exit)) ≡ length (now (frames .entry)) ⌝ }
+    requires { ⌜ FrameReady (now memory) m × (m .at + length (now e) < 2 ^ 64) × (m .steps + 1 < 2 ^ 64) ⌝ }
+    ensures { λ r. ⌜ Passes (now (e .entry)) (λ skip. (store : List ℕ)
+        → goes r (memoryOf store (now (memory .exit))) ≡ takeIf skip (memoryOf store (now (memory .entry))) m (truth (m .value))) ⌝ }
 {
     let value = m.value;
     if values::truth(value) {
         let top = m.frames - 1;
-        frames[top] = ON_SKIP;
+        memory[top] = ON_SKIP;
         return Registers {
             returning: false,
             at: m.at,
@@ -263,12 +269,12 @@ pub fn take_if(e: &[u8], frames: &mut [u64], m: Registers) -> Registers
 // AppApp: the function that the frame's word holds is applied.
 pub fn take_right(m: Registers, w: u64) -> Registers
     requires { ⌜ (1 ≤ m .frames) × (m .steps + 1 < 2 ^ 64) ⌝ }
-    ensures { λ r. ⌜ r ≡ answeredBy m (m .kept) (applied (valueIn (w / 8 % 68719476736)) (m .value)) ⌝ }
+    ensures { λ r. ⌜ r ≡ answeredBy m (m .kept) (applied (valueIn (heldFunction w)) (m .value)) ⌝ }
 {
     let value = m.value;
     answered(
         m,
         m.kept,
-        values::apply(values::packed::unpack(w / 8 % 68719476736), value),
+        values::apply(values::packed::unpack(frames::function(w)), value),
     )
 }

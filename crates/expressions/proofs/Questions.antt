@@ -17,7 +17,8 @@ use Rattle.expressions.specs.declared.QuestionCheck.{QuestionCheck}
 use Rattle.expressions.specs.declared.QuestionCheck.the-variants.{Refused, Accepted}
 use Rattle.expressions.specs.Forms.{typeNumber, inferredNumber, scopeOf, formedOf, inferredCode, questionOf}
 use Rattle.values.specs.Layout.{attributesIn}
-use Rattle.expressions.proofs.TypeNumbers.{base-small, number-positive, attributes-count}
+use Rattle.expressions.proofs.TypeNumbers.{base-small, number-positive}
+use Rattle.values.proofs.Declared.{attributes-count}
 
 -- ---- What the code answers
 

@@ -12,7 +12,8 @@ use borrow.Author.Tests.{eqb-true, eqb-false, lt-ltb, le-ltb, eq-eqb, ne-eqb}
 use Rattle.saiga.specs.Values.{Base, unitT, boolT, intT, nodeT, baseCode, baseOf, Ty, base, _⇒_}
 use Rattle.saiga.specs.Types.{attributeAt, sameBase, sameTy, given, inferIf, inferApplication}
 use Rattle.expressions.specs.Forms.{typeNumber, inferredNumber, inferAttribute}
-use Rattle.values.specs.Layout.{attributesIn}
+use Rattle.values.specs.Layout.{resultAt, parameterAt, attributesIn}
+use Rattle.values.proofs.Declared.{attribute-at}
 
 pub base-small : (B : Base) → baseCode B < 4
 base-small unitT = omega arith
@@ -96,27 +97,11 @@ application-number F X p q = rw (p, q) (go F)
 
 -- ---- The attributes of a sheet
 
-pub attributes-count : (l : List ℕ) (n : ℕ) → length (attributesIn l n) ≡ n
-unfolding attributesIn
-attributes-count l zero = refl
-attributes-count l (suc n) = ap suc (attributes-count (drop 3 l) n)
-
-attribute-in : (l : List ℕ) (n a : ℕ) → a < n
-    → attributeAt (attributesIn l n) a
-    ≡ record { result = baseOf (getD l (3 * a + 1) 0); parameter-type = baseOf (getD l (3 * a + 2) 0) }
-unfolding attributesIn
-attribute-in l zero a h = absurd (omega arith)
-attribute-in l (suc n) zero h = refl
-attribute-in l (suc n) (suc a) h =
-    let e : 3 + (3 * a + 1) ≡ 3 * suc a + 1 = omega arith in
-    let f : 3 + (3 * a + 2) ≡ 3 * suc a + 2 = omega arith in
-    rw (← e, ← f, ← getD-drop 3 l (3 * a + 1) 0, ← getD-drop 3 l (3 * a + 2) 0) (attribute-in (drop 3 l) n a (omega arith))
-
 pub attribute-number : (l : List ℕ) (m a : ℕ) (N X : Option Ty) {n x : ℕ} → a < m → n ≡ inferredNumber N → x ≡ inferredNumber X
     → inferredNumber (inferAttribute (attributeAt (attributesIn l m) a) N X)
-    ≡ cond (eqb 4 n) (cond (eqb (baseCode (baseOf (getD l (3 * a + 2) 0)) + 1) x) (baseCode (baseOf (getD l (3 * a + 1) 0)) + 1) 0) 0
+    ≡ cond (eqb 4 n) (cond (eqb (baseCode (baseOf (parameterAt l a)) + 1) x) (baseCode (baseOf (resultAt l a)) + 1) 0) 0
 unfolding inferredNumber typeNumber
 attribute-number l m a N X h p q =
-    rw (p, q, attribute-in l m a h)
+    rw (p, q, attribute-at l m a h)
     (given-number (base nodeT) N _
-    ∙ ap (λ m. cond (eqb 4 (inferredNumber N)) m 0) (given-number (base (baseOf (getD l (3 * a + 2) 0))) X _))
+    ∙ ap (λ m. cond (eqb 4 (inferredNumber N)) m 0) (given-number (base (baseOf (parameterAt l a))) X _))

@@ -92,8 +92,8 @@ fn attribute_number(types: &[u8], a: usize, n: u32, x: u32) -> u32
     if n != 4 {
         return 0;
     }
-    if x == base_number(types[3 * a + 2]) {
-        base_number(types[3 * a + 1])
+    if x == base_number(values::parameter_at(types, a)) {
+        base_number(values::result_at(types, a))
     } else {
         0
     }

@@ -33,5 +33,5 @@ module _ {sheet index store links : List ℕ} {r : SheetCheck} (checked : Checks
   unfolding storeCheckOf
   prepared-accepted e size stored =
       let p = sheet-prepared checked e in
-      let is = stored .answer (p .of) (sheet-of p .attributes-are) (p .nodes-are) ∙ ap storeCheckOf (empty-store (p .of) store size) in
+      let is = stored .answer (p .prepared .of) (sheet-of p .attributes-are) (p .nodes-are) ∙ ap storeCheckOf (empty-store (p .prepared .of) store size) in
       record { checked = rw e at checked; store-ready = λ m n h. store-prepared p stored is }

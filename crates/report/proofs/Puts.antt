@@ -8,10 +8,10 @@ use lib.Seq.{sets, sets-eq, length-sets, take-at}
 use Rattle.saiga.specs.Ask.{lent, refusal, ask}
 use Rattle.saiga.specs.Calls.{leaves}
 use Rattle.sheets.specs.declared.SheetCheck.{SheetCheck}
-use Rattle.sheets.specs.declared.SheetCheck.the-variants.{Refused}
+use Rattle.sheets.specs.declared.SheetCheck.the-variants.{Refused, Accepted}
 use Rattle.calls.specs.Answers.{answerOf}
-use Rattle.calls.specs.Prepared.{PreparedStore}
-use Rattle.calls.proofs.CheckLaws.{sheet-refused, refused-by-sheet}
+use Rattle.calls.specs.Prepared.{PreparedSheet, PreparedStore}
+use Rattle.calls.proofs.CheckLaws.{sheet-prepared, sheet-refused, refused-by-sheet}
 use Rattle.calls.proofs.Preparing.{refuses}
 use Rattle.lines.specs.Lines.{lineOf}
 use Rattle.report.specs.Printed.{asks}
@@ -33,19 +33,25 @@ module _ {check : SheetCheck} {sheet index store : List ℕ} {kept : ℕ} {links
             };
       }
 
+  pub sheet-ready : {attributes nodes : ℕ} → check ≡ Accepted attributes nodes → PreparedSheet sheet index
+  sheet-ready e = sheet-prepared (p .checked) e .prepared
+
+  pub store-ready : {attributes nodes : ℕ} → check ≡ Accepted attributes nodes → PreparedStore sheet store kept links
+  store-ready e = p .store-ready _ _ e
+
   pub put-accepted : {question left after : List ℕ} {r : Declared.Answer} → answerOf r ≡ ask sheet (lent store kept) (asks question) .answer
       → left ≡ ask sheet (lent store kept) (asks question) .store → PreparedStore sheet left (answerOf r .kept) after
       → Put check sheet index question store kept left after r
   put-accepted a s ready =
       record { answer = a; store-is = s; prepared = record { checked = p .checked; store-ready = λ m n h. ready } }
 
-pub put-after : {check : SheetCheck} {sheet index question store : List ℕ} {kept : ℕ} {left links : List ℕ} {r : Declared.Answer}
+put-after : {check : SheetCheck} {sheet index question store : List ℕ} {kept : ℕ} {left links : List ℕ} {r : Declared.Answer}
     → Put check sheet index question store kept left links r → lent left (answerOf r .kept) ≡ after sheet (lent store kept) question
 unfolding after leaves
 put-after p = ap₂ lent (p .store-is) (ap (λ a. a .kept) (p .answer))
 
 -- the line of the answer, as it was written into its buffer
-pub put-line : {check : SheetCheck} {sheet index question store : List ℕ} {kept : ℕ} {left links : List ℕ} {r : Declared.Answer}
+put-line : {check : SheetCheck} {sheet index question store : List ℕ} {kept : ℕ} {left links : List ℕ} {r : Declared.Answer}
     → Put check sheet index question store kept left links r → (buffer : List ℕ) (n : ℕ) → length buffer ≡ 128 → n ≡ length (lineOf (answerOf r)) → n ≤ 127
     → Line (sets buffer 0 (lineOf (answerOf r))) n (lineOf (ask sheet (lent store kept) (asks question) .answer))
 put-line {r = r} p buffer n size is fits =
@@ -56,3 +62,16 @@ put-line {r = r} p buffer n size is fits =
       fits = fits;
       size = rw length-sets size;
     }
+
+-- What the question leaves, with the number kept that its answer has, and the line of its answer.
+module _ (check : SheetCheck) (sheet index question store : List ℕ) (kept : ℕ) (left links : List ℕ) (r : Declared.Answer) (p : Put check sheet index question store kept left links r) where
+  module _ (kept' : ℕ) (same : kept' ≡ answerOf r .kept) where
+    pub leaves-prepared : Prepared check sheet index left kept' links
+    leaves-prepared = rw same (p .prepared)
+
+    pub leaves-after : lent left kept' ≡ after sheet (lent store kept) question
+    leaves-after = rw same (put-after p)
+
+  pub leaves-line : (buffer line : List ℕ) (n : ℕ) → length buffer ≡ 128 → n ≡ length (lineOf (answerOf r)) → line ≡ sets buffer 0 (lineOf (answerOf r)) → n ≤ 127
+      → Line line n (lineOf (ask sheet (lent store kept) (asks question) .answer))
+  leaves-line buffer line n size is written fits = rw written (put-line p buffer n size is fits)

@@ -12,7 +12,7 @@ use Rattle.saiga.specs.Ask.{lent, Answer}
 use Rattle.saiga.specs.Calls.{empty}
 use Rattle.sheets.specs.declared.SheetCheck.{SheetCheck}
 use Rattle.report.specs.declared.State.{State}
-use Rattle.report.specs.Report.{Prepared, Line, viewOf, chunkOf, turned, Within, Fetched, Turns, none, one-more, Ran}
+use Rattle.report.specs.Report.{Prepared, viewOf, chunkOf, turned, Within, Fetched, Turns, none, one-more, Ran}
 use Rattle.report.proofs.Turns.{view}
 
 -- so many turns, with those that are left, are all that the loop may make
@@ -33,7 +33,7 @@ pub record Running (check : SheetCheck) (sheet index input₀ store₀ links₀ 
   pub line-size : length line ≡ 128
 
 -- before the first turn
-pub made-none : {sheet : List ℕ} (input store : List ℕ) → lent store 0 ≡ empty entryLimit
+made-none : {sheet : List ℕ} (input store : List ℕ) → lent store 0 ≡ empty entryLimit
     → Made sheet input store record { from = 0; to = 0; came = 0; kept = 0; ended = false; going = true; line = 0 } 18446744073709551615
 made-none {sheet} input store e =
     record {
@@ -42,6 +42,19 @@ made-none {sheet} input store e =
       answers = [];
       so-far = subst (λ m. Turns sheet 0 [] [] (view [] false true m)) (sym e) none;
       counted = refl;
+    }
+
+pub running-start : (check : SheetCheck) (sheet index input store links line : List ℕ) → Prepared check sheet index store 0 links → lent store 0 ≡ empty entryLimit → length line ≡ 128
+    → Running check sheet index input store links input store links line record { from = 0; to = 0; came = 0; kept = 0; ended = false; going = true; line = 0 } 18446744073709551615
+running-start check sheet index input store links line p e size =
+    record {
+      prepared = p;
+      within = (omega arith, omega arith);
+      turns = made-none input store e;
+      input-same = refl;
+      store-same = refl;
+      links-same = refl;
+      line-size = size;
     }
 
 -- a read for the next turn keeps the store prepared
@@ -65,25 +78,22 @@ made-one {sheet} {store = store} {left = left} m going f e some =
       counted = omega (arith, m .counted);
     }
 
--- a turn, with what was read for it: `answered` is what `turn` promises
+-- a turn, with what was read for it
 pub running-on : {check : SheetCheck} {sheet index input₀ store₀ links₀ input store links line : List ℕ} {s : State} {left : ℕ}
     → Running check sheet index input₀ store₀ links₀ input store links line s left → s .going ≡ true → 0 < left
     → {input' : List ℕ} {s' : State} → Fetched input input' s s' → length input' ≡ length input
-    → (store' links' line' : List ℕ) (r : State) {text : List ℕ}
-    → (answered
-    : Prepared check sheet index store' (r .kept) links'
-    × (Within input' r × ((viewOf input' store' r ≡ turned sheet (viewOf input' store s') (chunkOf input' s')) × Line line' (r .line) text)))
-    → length store' ≡ length store → length links' ≡ length links
+    → {store' links' line' : List ℕ} {r : State} → Prepared check sheet index store' (r .kept) links' → Within input' r
+    → viewOf input' store' r ≡ turned sheet (viewOf input' store s') (chunkOf input' s') → length line' ≡ 128 → length store' ≡ length store → length links' ≡ length links
     → Running check sheet index input₀ store₀ links₀ input' store' links' line' r (left - 1)
-running-on w going some f same store' links' line' r answered same-store same-links =
+running-on w going some f same prepared within view-is size same-store same-links =
     record {
-      prepared = answered .0;
-      within = answered .1 .0;
-      turns = made-one (w .turns) going f (answered .1 .1 .0) some;
+      prepared = prepared;
+      within = within;
+      turns = made-one (w .turns) going f view-is some;
       input-same = same ∙ w .input-same;
       store-same = same-store ∙ w .store-same;
       links-same = same-links ∙ w .links-same;
-      line-size = answered .1 .1 .1 .size;
+      line-size = size;
     }
 
 pub ran : {sheet input store : List ℕ} {s : State} {left : ℕ} {written : Bool} → Made sheet input store s left

@@ -2,10 +2,13 @@
 mod system;
 
 use calls::Answer;
+use engine::RUN_SIZE;
 use saiga::limits::BUDGET_LIMIT;
 use saiga::limits::SHEET_LIMIT;
 use saiga::limits::STORE_LIMIT;
 use sheets::SheetCheck;
+use sheets::lookup::INDEX_SIZE;
+use stores::LINKS_SIZE;
 use stream::Next;
 ghost use mathlib.Core.Path.{_≡_};
 ghost use Prim.Native.Nat.{_≤_};
@@ -14,6 +17,7 @@ ghost use lib.Seq.{sets};
 ghost use Rattle.saiga.specs.Limits.{entryLimit, storeLimit};
 ghost use Rattle.saiga.specs.Ask.{lent, ask as called};
 ghost use Rattle.saiga.specs.Calls.{empty};
+ghost use Rattle.stores.specs.Keys.{linksSize};
 ghost use Rattle.calls.specs.Answers.{answerOf};
 ghost use Rattle.lines.specs.Lines.{lineOf};
 ghost use Rattle.report.specs.Printed.{asks, lines};
@@ -90,26 +94,22 @@ fn ask<'a>(
     store: &mut [u8],
     kept: usize,
     links: &mut [u32],
-    frames: &mut [u64; 16640],
-    forms: &mut [u32; 256],
+    memory: &mut [u64; RUN_SIZE],
 ) -> Answer
     requires { ⌜ Prepared check (now sheet) (now index) (now store) kept (now links) ⌝ }
     ensures { λ r. ⌜ Put check (now (sheet .entry)) (now (index .entry)) (now (question .entry)) (now (store .entry)) kept (now (store .exit)) (now (links .exit)) r ⌝ }
 {
     match check {
         SheetCheck::Refused(number, place) => calls::refuse(number, place, kept),
-        SheetCheck::Accepted(attributes, nodes) => calls::ask_checked(
+        SheetCheck::Accepted(_, _) => calls::ask_checked(
             sheet,
             index,
-            attributes,
-            nodes,
             question,
             store,
             kept,
             BUDGET_LIMIT,
             links,
-            frames,
-            forms,
+            memory,
         ),
     }
 }
@@ -123,8 +123,7 @@ fn answer<'a>(
     store: &mut [u8],
     kept: usize,
     links: &mut [u32],
-    frames: &mut [u64; 16640],
-    forms: &mut [u32; 256],
+    memory: &mut [u64; RUN_SIZE],
     line: &mut [u8; 128],
 ) -> Answered
     requires { ⌜ Prepared check (now sheet) (now index) (now store) kept (now links) ⌝ }
@@ -133,17 +132,7 @@ fn answer<'a>(
     ensures { λ r. ⌜ lent (now (store .exit)) (r .kept) ≡ after (now (sheet .entry)) (lent (now (store .entry)) kept) (now (question .entry)) ⌝ }
     ensures { λ r. ⌜ Line (now (line .exit)) (r .line) (lineOf (called (now (sheet .entry)) (lent (now (store .entry)) kept) (asks (now (question .entry))) .answer)) ⌝ }
 {
-    let brought = ask(
-        check,
-        sheet,
-        index,
-        question,
-        store,
-        kept,
-        links,
-        frames,
-        forms,
-    );
+    let brought = ask(check, sheet, index, question, store, kept, links, memory);
     Answered {
         kept: kept_of(brought),
         line: line_of(brought, line),
@@ -184,8 +173,7 @@ fn turn<'a>(
     input: &'a [u8],
     store: &mut [u8],
     links: &mut [u32],
-    frames: &mut [u64; 16640],
-    forms: &mut [u32; 256],
+    memory: &mut [u64; RUN_SIZE],
     line: &mut [u8; 128],
     s: State,
 ) -> State
@@ -216,8 +204,7 @@ fn turn<'a>(
                 store,
                 kept,
                 links,
-                frames,
-                forms,
+                memory,
                 line,
             );
             State {
@@ -239,8 +226,7 @@ fn turn<'a>(
                 store,
                 kept,
                 links,
-                frames,
-                forms,
+                memory,
                 line,
             );
             State {
@@ -283,8 +269,7 @@ fn run(
     input: &mut [u8],
     store: &mut [u8],
     links: &mut [u32],
-    frames: &mut [u64; 16640],
-    forms: &mut [u32; 256],
+    memory: &mut [u64; RUN_SIZE],
 ) -> Ending
     requires { ⌜ Prepared check (now sheet) (now index) (now store) 0 (now links) ⌝ }
     requires { ⌜ lent (now store) 0 ≡ empty entryLimit ⌝ }
@@ -311,8 +296,7 @@ fn run(
             input,
             store,
             links,
-            frames,
-            forms,
+            memory,
             &mut line,
             s,
         );
@@ -334,8 +318,13 @@ fn run(
 }
 
 // The sheet is checked, and where it is accepted the empty store is indexed.
-fn prepare(sheet: &[u8], index: &mut [u32; 33280], store: &[u8], links: &mut [u32]) -> SheetCheck
-    requires { ⌜ (length (now store) ≡ storeLimit) × (length (now links) ≡ 2048) ⌝ }
+fn prepare(
+    sheet: &[u8],
+    index: &mut [u32; INDEX_SIZE],
+    store: &[u8],
+    links: &mut [u32],
+) -> SheetCheck
+    requires { ⌜ (length (now store) ≡ storeLimit) × (length (now links) ≡ linksSize) ⌝ }
     ensures { λ r. ⌜ Prepared r (now (sheet .entry)) (now (index .exit)) (now (store .entry)) 0 (now (links .exit)) ⌝ }
 {
     match sheets::check(sheet, index) {
@@ -348,13 +337,12 @@ fn prepare(sheet: &[u8], index: &mut [u32; 33280], store: &[u8], links: &mut [u3
 }
 
 // All questions are put to one store of 1,024 entries, which is empty at first. `index` has room for the sheet's.
-fn answer_all(sheet: &[u8], index: &mut [u32; 33280]) {
+fn answer_all(sheet: &[u8], index: &mut [u32; INDEX_SIZE]) {
     let mut store = [0u8; STORE_LIMIT];
-    let mut links = [0u32; 2048];
+    let mut links = [0u32; LINKS_SIZE];
     let check = prepare(sheet, index, &store, &mut links);
     let mut input = [0u8; 131072];
-    let mut frames = [0u64; 16640];
-    let mut forms = [0u32; 256];
+    let mut memory = [0u64; RUN_SIZE];
     run(
         check,
         sheet,
@@ -362,14 +350,13 @@ fn answer_all(sheet: &[u8], index: &mut [u32; 33280]) {
         &mut input,
         &mut store,
         &mut links,
-        &mut frames,
-        &mut forms,
+        &mut memory,
     );
 }
 
 fn main() {
     let mut sheet = [0u8; SHEET_LIMIT + 1];
     let n = system::read_sheet(&mut sheet);
-    let mut index = [0u32; 33280];
+    let mut index = [0u32; INDEX_SIZE];
     answer_all(&sheet[..n], &mut index);
 }

@@ -14,7 +14,7 @@ use Rattle.engine.specs.declared.Registers.{Registers}
 use Rattle.engine.specs.Steps.{Memory, Stepped, goes, waits, finishes, stops, readHead, takeIf, within, closeForm, openRule, openFigure, takeKept, attributeDue, give, readNext, stepOf}
 use Rattle.saiga.proofs.Preservation.{either}
 
-module _ (sheet index : List ℕ) (attributes limit : ℕ) (mem : Memory) (m : Registers) where
+module _ (sheet index : List ℕ) (limit : ℕ) (mem : Memory) (m : Registers) where
   -- the count stays within the limit
   abbrev Counts : Stepped → Type 0
   Counts (goes m′ mem′) = m .steps ≤ limit → m′ .steps ≤ limit
@@ -33,7 +33,7 @@ module _ (sheet index : List ℕ) (attributes limit : ℕ) (mem : Memory) (m : R
   head-counts parameter-head l = λ h. h
   head-counts no-head l = tt
 
-  reading-counts : (l : List ℕ) → Counts (readNext sheet index attributes mem m l)
+  reading-counts : (l : List ℕ) → Counts (readNext sheet index mem m l)
   unfolding readNext
   reading-counts [] = tt
   reading-counts (c ∷ l) = head-counts (headOf c) l
@@ -49,17 +49,17 @@ module _ (sheet index : List ℕ) (attributes limit : ℕ) (mem : Memory) (m : R
   if-counts before skip true = λ h. omega arith
   if-counts before skip false = λ h. omega arith
 
-  figure-counts : m .steps < limit → (n a word : ℕ) (f : Option Value) → Counts (openFigure sheet index attributes mem m n a word f)
+  figure-counts : m .steps < limit → (n a word : ℕ) (f : Option Value) → Counts (openFigure sheet index mem m n a word f)
   unfolding openFigure openRule
   figure-counts before n a word none = λ h. omega arith
   figure-counts before n a word (some v) = λ h. omega arith
 
-  kept-counts : m .steps < limit → (n a : ℕ) (f : Option ℕ) → Counts (takeKept sheet index attributes mem m n a f)
+  kept-counts : m .steps < limit → (n a : ℕ) (f : Option ℕ) → Counts (takeKept sheet index mem m n a f)
   unfolding takeKept
   kept-counts before n a none = figure-counts before n a _ _
   kept-counts before n a (some j) = λ h. omega arith
 
-  attribute-counts : (budget n a : ℕ) → Counts (attributeDue sheet index attributes budget limit mem m n a)
+  attribute-counts : (budget n a : ℕ) → Counts (attributeDue sheet index budget limit mem m n a)
   unfolding attributeDue
   attribute-counts budget n a =
       either Counts (eqb n null) {x = stops 14} (λ _. tt) λ _.
@@ -67,7 +67,7 @@ module _ (sheet index : List ℕ) (attributes limit : ℕ) (mem : Memory) (m : R
       either Counts (leb 64 (m .forms)) {x = stops 16} (λ _. tt) λ _.
       either Counts (leb limit (m .steps)) {x = waits} (λ _. tt) λ before. kept-counts (leb-false _ _ before) n a _
 
-  give-counts : (budget skip packed w : ℕ) → Counts (give sheet index attributes budget limit skip packed mem m w)
+  give-counts : (budget skip packed w : ℕ) → Counts (give sheet index budget limit skip packed mem m w)
   unfolding give closeForm
   give-counts budget skip packed w =
       either Counts (eqb (w % 8) 0) (λ _. within-counts budget _ (λ before. if-counts before skip (truth (m .value)))) λ _.
@@ -78,7 +78,7 @@ module _ (sheet index : List ℕ) (attributes limit : ℕ) (mem : Memory) (m : R
       either Counts (eqb (w % 8) 6) (λ _ h. h) λ _.
       attribute-counts budget _ _
 
-  move-counts : (question : List ℕ) (budget skip packed : ℕ) → Counts (stepOf sheet index attributes question budget limit skip packed mem m)
+  move-counts : (question : List ℕ) (budget skip packed : ℕ) → Counts (stepOf sheet index question budget limit skip packed mem m)
   unfolding stepOf
   move-counts question budget skip packed =
       either Counts (m .returning)
@@ -86,5 +86,5 @@ module _ (sheet index : List ℕ) (attributes limit : ℕ) (mem : Memory) (m : R
       (λ _. reading-counts _)
 
   pub counts-on : (question : List ℕ) (budget skip packed : ℕ) {m′ : Registers} {mem′ : Memory}
-      → stepOf sheet index attributes question budget limit skip packed mem m ≡ goes m′ mem′ → m .steps ≤ limit → m′ .steps ≤ limit
+      → stepOf sheet index question budget limit skip packed mem m ≡ goes m′ mem′ → m .steps ≤ limit → m′ .steps ≤ limit
   counts-on question budget skip packed e = rw e at (move-counts question budget skip packed)

@@ -6,9 +6,9 @@ use borrow.Author.Tests.{le-leb, lt-leb}
 use Rattle.engine.specs.declared.Registers.{Registers}
 use Rattle.engine.specs.Steps.{Memory, Stepped, waits, stops, within}
 use Rattle.saiga.proofs.Preservation.{either}
-use Rattle.attributes.specs.declared.Step.{Step}
-use Rattle.attributes.specs.declared.Step.the-variants.{Goes, Waits, Finishes, Stops}
-use Rattle.attributes.specs.Due.{steppedOf, keptAfter, keptIn}
+use Rattle.engine.specs.declared.Step.{Step}
+use Rattle.engine.specs.declared.Step.the-variants.{Goes, Waits, Finishes, Stops}
+use Rattle.engine.specs.CodeSteps.{steppedOf, keptAfter, keptIn}
 
 module _ (budget limit : ℕ) (m : Registers) (next : Stepped) where
   pub within-spent : budget ≤ m .steps → stops 15 ≡ within budget limit m next

@@ -2,11 +2,12 @@
 use mathlib.Core.Bool.{true, false≢true}
 use mathlib.Core.List.{List}
 use mathlib.Core.Option.{some}
-use mathlib.Core.Path.{_≡_, refl, sym}
-use Prim.Native.Nat.{ℕ, zero, suc, _+_, _-_, _/_, _%_, _^_, _≤_, _<_}
+use mathlib.Core.Path.{_≡_, refl, sym, _∙_}
+use Prim.Native.Nat.{ℕ, zero, suc, _+_, _-_, _^_, _≤_, _<_}
 use native.Mathlib.Omega.{arith}
 use lib.ListN.{length, getD}
 use borrow.Author.Tests.{ne-eqb}
+use Rattle.saiga.specs.Limits.{budgetLimit}
 use Rattle.saiga.specs.Values.{nodeOf}
 use Rattle.saiga.specs.Sheet.{Sheet, figured, ruled, isDefined}
 use Rattle.saiga.proofs.Accepted.{pair-defined}
@@ -19,11 +20,13 @@ use Rattle.engine.specs.RunningPiece.{pieceIn, restOf}
 use Rattle.expressions.specs.Widths.{Starts}
 use Rattle.values.specs.Packed.{valueIn}
 use Rattle.engine.specs.declared.Registers.{Registers}
-use Rattle.engine.specs.Decode.{sheetOf}
+use Rattle.engine.specs.FrameWords.{kindOf, ifKind, skipKind, parameterKind, formKind, heldAttribute, heldNode}
+use Rattle.engine.specs.Decode.{frameLimit, sheetOf, wordsIn}
 use Rattle.engine.specs.Represents.{Represents}
-use Rattle.engine.specs.Ready.{memoryOf}
+use Rattle.engine.specs.Ready.{memoryOf, FrameReady}
 use Rattle.engine.proofs.Kept.{by-key}
-use Rattle.engine.proofs.ReadyForCode.{rest-reaches, frames-inside, if-starts, skip-starts}
+use Rattle.engine.proofs.RunMemory.{frame-at}
+use Rattle.engine.proofs.ReadyForCode.{rest-reaches, frames-inside, frame-ready, parameter-ready, if-starts, skip-starts}
 use Rattle.engine.proofs.Attributes.{form-counted, due-in, attribute-is, definition-at}
 use Rattle.attributes.specs.Due.{WriteReady, CloseReady, AttributeReady}
 use Rattle.runs.specs.Moves.{MoveReady}
@@ -34,73 +37,114 @@ unfolding pieceIn
 piece-short sheet question zero a b = omega arith
 piece-short sheet question (suc k) a b = a
 
-module _ {sheet index question : List ℕ} {attributes : ℕ} {store links words forms : List ℕ} {m : Registers}
-    (ready : MoveReady sheet index question attributes store links words forms m) where
+module _ {sheet index question : List ℕ} {store links run : List ℕ} {m : Registers}
+    (ready : MoveReady sheet index question store links run m) where
   abbrev s : Sheet
   s = sheetOf sheet
 
-  abbrev r : Represents sheet index question attributes (memoryOf store words forms) m
+  abbrev r : Represents sheet index question (memoryOf store run) m
   r = ready .represents
 
   pub end-short : m .end ≤ 65536
-  end-short = omega (arith, r .holds .to, piece-short sheet question (m .forms) (r .index-of .short) (ready .short))
+  end-short = omega (arith, r .holds .to, piece-short sheet question (m .forms) (r .index-of .described .short) (ready .short))
 
   pub write-ready : WriteReady store links (m .kept)
   write-ready = record { linked = ready .linked; short = store-in s store (m .kept) _ (r .holds .stored) .short }
 
-  module _ (gives : m .returning ≡ true) (some : 0 < m .frames) {w : ℕ} (is : w ≡ getD words (m .frames - 1) 0) where
-    pub if-ready : {e : List ℕ} → e ≡ restOf sheet question (m .forms) (m .at) (m .end) → w % 8 ≡ 0 → Starts e
-    if-ready rest kind = rw rest (if-starts r gives some (rw is at kind))
+  pub top-inside : 0 < m .frames → m .frames - 1 < frameLimit
+  top-inside framed = omega (arith, frames-inside run r)
 
-    pub skip-ready : {e : List ℕ} → e ≡ restOf sheet question (m .forms) (m .at) (m .end) → w % 8 ≡ 2 → Starts e
-    skip-ready rest kind = rw rest (skip-starts r gives some (rw is at kind))
+-- A value is given to the innermost frame, of kind `k`.
+pub record Given (sheet index question store links run : List ℕ) (budget limit : ℕ) (m : Registers) (k : ℕ) : Type 0 where
+  pub ready : MoveReady sheet index question store links run m
+  pub gives : m .returning ≡ true
+  pub some : 0 < m .frames
+  pub permitted : budget ≤ budgetLimit
+  pub kind : k ≡ kindOf (getD run (m .frames - 1) 0)
 
-    pub reaches : {e : List ℕ} → e ≡ restOf sheet question (m .forms) (m .at) (m .end) → m .at + length e < 2 ^ 64
-    reaches rest = rw rest (omega (arith, rest-reaches r, end-short))
+-- That a kind is none of 0 to 4 and 6, as a `match` on it hands that to its last arm.
+abbrev pub OtherKind : ℕ → Type 0
+OtherKind k = (((((Unit {0} × (k ≡ 0 → ⊥)) × (k ≡ 1 → ⊥)) × (k ≡ 2 → ⊥)) × (k ≡ 3 → ⊥)) × (k ≡ 4 → ⊥)) × (k ≡ 6 → ⊥)
 
-    pub close-ready : w % 8 ≡ 6 → CloseReady store links forms m
-    close-ready kind =
-        let opened = form-counted r gives some (by-key s) (rw is at kind) in
-        record { writes = write-ready; framed = some; opened = omega (arith, opened); placed = omega (arith, r .holds .few, r .holds .forms-size) }
+pub late-kind : {k : ℕ} → OtherKind k → 5 ≤ k
+late-kind {k} rest =
+    let no-if : k ≡ 0 → ⊥ = rest .0 .0 .0 .0 .0 .1 in
+    let no-left : k ≡ 1 → ⊥ = rest .0 .0 .0 .0 .1 in
+    let no-skip : k ≡ 2 → ⊥ = rest .0 .0 .0 .1 in
+    let no-right : k ≡ 3 → ⊥ = rest .0 .0 .1 in
+    let no-node : k ≡ 4 → ⊥ = rest .0 .1 in
+    omega arith
 
-    -- AttrApp, with the node and the attribute that the innermost frame's word holds
-    module _ {budget : ℕ} (few-steps : budget < 2 ^ 64) (left : m .steps < budget) (few : m .forms < 64) where
-      abbrev word : ℕ
-      word = getD words (m .frames - 1) 0
+module _ (sheet index question store links run : List ℕ) (budget limit : ℕ) (m : Registers) (k : ℕ)
+    (given : Given sheet index question store links run budget limit m k) where
+  abbrev rep : Represents sheet index question (memoryOf store run) m
+  rep = given .ready .represents
 
-      abbrev n : ℕ
-      n = nodeOf (valueIn (word / 256 % 68719476736))
+  abbrev decoded : Sheet
+  decoded = sheetOf sheet
 
-      abbrev a : ℕ
-      a = word / 8 % 32
+  abbrev w : ℕ
+  w = getD run (m .frames - 1) 0
 
-      due-ready : 5 ≤ word % 8 → (word % 8 ≡ 6 → ⊥) → (n ≡ 65535 → ⊥) → AttributeReady sheet index attributes store links words forms m n a
-      unfolding indexed figured ruled isDefined keyOf
-      due-ready late no-form no-null =
-          let no-null-is = ne-eqb n 65535 no-null in
-          let o-in = due-in r gives some (by-key s) late no-form _ budget 0 refl no-null-is left few in
-          record {
-            pair = record { sheet = s; known = r .index-of; node = o-in .node-declared; attribute = o-in .attribute-declared };
-            all = sym (r .attributes-are);
-            defined = λ no-figure no-rule. false≢true
-                (rw (definition-at r gives some (by-key s) late no-form _ budget 0 refl no-null-is left few, no-figure, no-rule)
-                at (pair-defined sheet s (r .accepts) n a (o-in .node-declared) (o-in .attribute-declared)));
-            kept-word = λ j found. word-more _ _ (r .index-of .nodes-bound)
-                (rw (attribute-is r gives some (by-key s) late no-form _ budget 0 refl no-null-is left few)
-                at (kept-word s store (m .kept) _ (r .holds .stored) record { node = n; attribute = a; parameter = m .value } o-in j found));
-            writes = write-ready;
-            form = record {
-              framed = some;
-              shallow = omega (arith, frames-inside r, r .holds .words-size);
-              inside = frames-inside r;
-              few = few;
-              room = omega (arith, r .holds .forms-size);
-              at-short = omega (arith, r .holds .from, end-short);
-              end-short = omega (arith, end-short);
-              counts = omega arith;
-            };
-          }
+  is : w ≡ getD (wordsIn run) (m .frames - 1) 0
+  is = frame-at run (m .frames - 1) (top-inside (given .ready) (given .some))
 
-      pub attribute-ready : 5 ≤ w % 8 → (w % 8 ≡ 6 → ⊥) → (nodeOf (valueIn (w / 256 % 68719476736)) ≡ 65535 → ⊥)
-          → AttributeReady sheet index attributes store links words forms m (nodeOf (valueIn (w / 256 % 68719476736))) (w / 8 % 32)
-      attribute-ready late no-form no-null = rw is (due-ready (rw is at late) (rw is at no-form) (rw is at no-null))
+  of-kind : (j : ℕ) → k ≡ j → kindOf (getD (wordsIn run) (m .frames - 1) 0) ≡ j
+  of-kind j key = rw is at (sym (given .kind) ∙ key)
+
+  pub framed : FrameReady run m
+  framed = frame-ready run rep (given .some)
+
+  module _ (e : List ℕ) (rest : e ≡ restOf sheet question (m .forms) (m .at) (m .end)) where
+    pub if-ready : k ≡ ifKind → Starts e
+    if-ready key = rw rest (if-starts rep (given .gives) (given .some) (of-kind ifKind key))
+
+    pub skip-ready : k ≡ skipKind → Starts e
+    skip-ready key = rw rest (skip-starts rep (given .gives) (given .some) (of-kind skipKind key))
+
+    pub reaches : m .at + length e < 2 ^ 64
+    reaches = rw rest (omega (arith, rest-reaches run rep, end-short (given .ready)))
+
+  pub close-ready : k ≡ formKind → CloseReady store links run m
+  close-ready key =
+      let opened = form-counted rep (given .gives) (given .some) (by-key decoded) (of-kind formKind key) in
+      let ready = parameter-ready run rep (omega (arith, opened, rep .holds .counted)) in
+      record { writes = write-ready (given .ready); framed = given .some; node = ready .node; word-small = ready .word-small }
+
+  -- AttrApp, with the node and the attribute that the innermost frame's word holds
+  module _ (left : m .steps < budget) (few : m .forms < 64) where
+    abbrev word : ℕ
+    word = getD (wordsIn run) (m .frames - 1) 0
+
+    abbrev n : ℕ
+    n = nodeOf (valueIn (heldNode word))
+
+    abbrev a : ℕ
+    a = heldAttribute word
+
+    due-ready : parameterKind ≤ kindOf word → (kindOf word ≡ formKind → ⊥) → (n ≡ 65535 → ⊥) → AttributeReady sheet index store links run m n a
+    unfolding indexed figured ruled isDefined keyOf
+    due-ready late no-form no-null =
+        let r = rep in
+        let gives = given .gives in
+        let some = given .some in
+        let no-null-is = ne-eqb n 65535 no-null in
+        let o-in = due-in r gives some (by-key decoded) late no-form _ budget 0 refl no-null-is left few in
+        record {
+          pair = record { sheet = decoded; known = r .index-of; node = o-in .node-declared; attribute = o-in .attribute-declared };
+          defined = λ no-figure no-rule. false≢true
+              (rw (definition-at r gives some (by-key decoded) late no-form _ budget 0 refl no-null-is left few, no-figure, no-rule)
+              at (pair-defined sheet decoded (r .accepts) n a (o-in .node-declared) (o-in .attribute-declared)));
+          kept-word = λ j found. word-more _ _ (r .index-of .described .nodes-bound)
+              (rw (attribute-is r gives some (by-key decoded) late no-form _ budget 0 refl no-null-is left few)
+              at (kept-word decoded store (m .kept) _ (r .holds .stored) record { node = n; attribute = a; parameter = m .value } o-in j found));
+          writes = write-ready (given .ready);
+          form = record { frame = framed; few = few; counts = omega (arith, given .permitted) };
+        }
+
+  pub attribute-ready : OtherKind k → (nodeOf (valueIn (heldNode w)) ≡ 65535 → ⊥) → m .steps < budget → m .forms < 64
+      → AttributeReady sheet index store links run m (nodeOf (valueIn (heldNode w))) (heldAttribute w)
+  attribute-ready other no-null left few =
+      let late : 5 ≤ kindOf w = rw (given .kind) at (late-kind other) in
+      let no-form : kindOf w ≡ 6 → ⊥ = rw (given .kind) at (other .1) in
+      rw is (due-ready left few (rw is at late) (rw is at no-form) (rw is at no-null))

@@ -13,45 +13,51 @@ use Rattle.engine.specs.Ready.{memoryOf}
 use Rattle.engine.specs.Loop.{Invariant}
 use Rattle.engine.proofs.Loop.{invariant-on, invariant-falls, invariant-waits, invariant-finishes, invariant-stops}
 use Rattle.engine.proofs.Bounds.{measure}
-use Rattle.attributes.specs.declared.Step.{Step}
-use Rattle.attributes.specs.declared.Step.the-variants.{Goes, Waits, Finishes, Stops}
-use Rattle.attributes.specs.Due.{steppedOf, keptAfter}
+use Rattle.engine.specs.declared.Step.{Step}
+use Rattle.engine.specs.declared.Step.the-variants.{Goes, Waits, Finishes, Stops}
+use Rattle.engine.specs.CodeSteps.{steppedOf, keptAfter}
 use Rattle.runs.specs.declared.RunEnd.the-variants as End
 use Rattle.runs.proofs.Counting.{counts-on}
-use Rattle.runs.specs.Moves.{MoveReady, StepsTo, Running, RunsTo}
+use Rattle.runs.specs.Moves.{StepsTo, Running, RunsTo}
 
-module _ (sheet index question : List ℕ) (attributes budget limit : ℕ) where
+module _ (sheet index question : List ℕ) (budget limit : ℕ) where
   -- registers and memory, and those that the run began with
-  pub record Round (store₀ links₀ words₀ forms₀ : List ℕ) (first : Registers) (store links words forms : List ℕ) (m : Registers) : Type 0 where
-    pub running : Running sheet index question attributes budget store links words forms m
-    pub on : (lent : List ℕ) (kept : ℕ) (whole : Ended) → Invariant sheet index question attributes budget lent kept whole (memoryOf store₀ words₀ forms₀) first
-        → Invariant sheet index question attributes budget lent kept whole (memoryOf store words forms) m
+  pub record Round (store₀ links₀ run₀ : List ℕ) (first : Registers) (store links run : List ℕ) (m : Registers) : Type 0 where
+    pub running : Running sheet index question budget store links run m
+    pub on : (lent : List ℕ) (kept : ℕ) (whole : Ended) → Invariant sheet index question budget lent kept whole (memoryOf store₀ run₀) first
+        → Invariant sheet index question budget lent kept whole (memoryOf store run) m
     pub counted : first .steps ≤ limit → m .steps ≤ limit
     pub store-size : length store ≡ length store₀
     pub links-size : length links ≡ length links₀
-    pub words-size : length words ≡ length words₀
-    pub forms-size : length forms ≡ length forms₀
+    pub run-size : length run ≡ length run₀
 
-  pub first-round : {store links words forms : List ℕ} {m : Registers} → Running sheet index question attributes budget store links words forms m
-      → Round store links words forms m store links words forms m
+  pub first-round : {store links run : List ℕ} {m : Registers} → Running sheet index question budget store links run m
+      → Round store links run m store links run m
   first-round running =
-      record { running = running; on = λ lent kept whole i. i; counted = λ h. h; store-size = refl; links-size = refl; words-size = refl; forms-size = refl }
+      record { running = running; on = λ lent kept whole i. i; counted = λ h. h; store-size = refl; links-size = refl; run-size = refl }
 
-  module _ {store₀ links₀ words₀ forms₀ : List ℕ} {first : Registers} {store links words forms : List ℕ} {m : Registers}
-      (round : Round store₀ links₀ words₀ forms₀ first store links words forms m) where
+  module _ {store₀ links₀ run₀ : List ℕ} {first : Registers} {store links run : List ℕ} {m : Registers}
+      (round : Round store₀ links₀ run₀ first store links run m) where
     abbrev mem : Memory
-    mem = memoryOf store words forms
+    mem = memoryOf store run
 
-    pub round-ready : MoveReady sheet index question attributes store links words forms m
-    round-ready = record { represents = round .running .invariant .represents; linked = round .running .linked; short = round .running .short }
+    -- A move keeps the lengths.
+    pub store-stays : (store′ : List ℕ) → length store′ ≡ length store → length store′ ≡ length store₀
+    store-stays store′ same = same ∙ round .store-size
 
-    module _ {store′ links′ words′ forms′ : List ℕ} {r : Step}
-        (steps : StepsTo sheet index question attributes budget limit mem (memoryOf store′ words′ forms′) links′ m r) where
+    pub links-stay : (links′ : List ℕ) → length links′ ≡ length links → length links′ ≡ length links₀
+    links-stay links′ same = same ∙ round .links-size
+
+    pub run-stays : (run′ : List ℕ) → length run′ ≡ length run → length run′ ≡ length run₀
+    run-stays run′ same = same ∙ round .run-size
+
+    module _ {store′ links′ : List ℕ} (run′ : List ℕ) {r : Step}
+        (steps : StepsTo sheet index question budget limit mem (memoryOf store′ run′) links′ m r) where
       abbrev mem′ : Memory
-      mem′ = memoryOf store′ words′ forms′
+      mem′ = memoryOf store′ run′
 
       abbrev moveOf : Stepped
-      moveOf = stepOf sheet index attributes question budget limit (steps .skip) (steps .packed) mem m
+      moveOf = stepOf sheet index question budget limit (steps .skip) (steps .packed) mem m
 
       -- what the move was
       came : {r′ : Step} → r ≡ r′ → moveOf ≡ steppedOf r′ mem′
@@ -65,12 +71,12 @@ module _ (sheet index question : List ℕ) (attributes budget limit : ℕ) where
         pub round-less : measure budget (machineIn sheet question mem′ m′) < measure budget (machineIn sheet question mem m)
         round-less = invariant-falls (round .running .invariant) limit (steps .skip) (steps .packed) (steps .width) (steps .packs) goes-to
 
-        pub round-again : length store′ ≡ length store → length links′ ≡ length links → length words′ ≡ length words → length forms′ ≡ length forms
-            → Round store₀ links₀ words₀ forms₀ first store′ links′ words′ forms′ m′
+        pub round-again : length store′ ≡ length store → length links′ ≡ length links → length run′ ≡ length run
+            → Round store₀ links₀ run₀ first store′ links′ run′ m′
         unfolding keptAfter
-        round-again a b c d =
-            let next : (lent : List ℕ) (kept : ℕ) (whole : Ended) → Invariant sheet index question attributes budget lent kept whole mem m
-            → Invariant sheet index question attributes budget lent kept whole mem′ m′ =
+        round-again a b c =
+            let next : (lent : List ℕ) (kept : ℕ) (whole : Ended) → Invariant sheet index question budget lent kept whole mem m
+            → Invariant sheet index question budget lent kept whole mem′ m′ =
             λ lent kept whole i. invariant-on i limit (steps .skip) (steps .packed) (steps .width) (steps .packs) goes-to in
             record {
               running = record {
@@ -78,41 +84,50 @@ module _ (sheet index question : List ℕ) (attributes budget limit : ℕ) where
                 kept = round .running .kept;
                 whole = round .running .whole;
                 invariant = next _ _ _ (round .running .invariant);
+                permitted = round .running .permitted;
                 linked = rw is at (steps .linked);
                 short = round .running .short;
               };
               on = λ lent kept whole i. next lent kept whole (round .on lent kept whole i);
-              counted = λ h. counts-on sheet index attributes limit mem m question budget (steps .skip) (steps .packed) goes-to (round .counted h);
+              counted = λ h. counts-on sheet index limit mem m question budget (steps .skip) (steps .packed) goes-to (round .counted h);
               store-size = a ∙ round .store-size;
               links-size = b ∙ round .links-size;
-              words-size = c ∙ round .words-size;
-              forms-size = d ∙ round .forms-size;
+              run-size = c ∙ round .run-size;
             }
 
       module _ (lent : List ℕ) (kept : ℕ) (whole : Ended)
-          (i : Invariant sheet index question attributes budget lent kept whole (memoryOf store₀ words₀ forms₀) first) where
-        now-holds : Invariant sheet index question attributes budget lent kept whole mem m
+          (i : Invariant sheet index question budget lent kept whole (memoryOf store₀ run₀) first) where
+        now-holds : Invariant sheet index question budget lent kept whole mem m
         now-holds = round .on lent kept whole i
 
-        pub round-pauses : r ≡ Waits → RunsTo sheet index question attributes budget limit lent kept whole (first .steps) mem′ (End.Pauses m)
+        pub round-pauses : r ≡ Waits → RunsTo sheet index question budget limit lent kept whole (first .steps) mem′ (End.Pauses m)
         unfolding steppedOf
         round-pauses is =
             let same : mem′ ≡ mem = rw is at (steps .still) in
             let (reached, left) = invariant-waits now-holds limit (steps .skip) (steps .packed) (steps .width) (steps .packs) (came is) in
             (rw same now-holds, reached, left, λ h. let below = round .counted h in omega arith)
 
-        pub round-finishes : r ≡ Finishes → RunsTo sheet index question attributes budget limit lent kept whole (first .steps) mem′ (End.Finishes m)
+        pub round-finishes : r ≡ Finishes → RunsTo sheet index question budget limit lent kept whole (first .steps) mem′ (End.Finishes m)
         unfolding steppedOf
         round-finishes is =
             let same : mem′ ≡ mem = rw is at (steps .still) in
             rw same (invariant-finishes now-holds limit (steps .skip) (steps .packed) (steps .width) (steps .packs) (came is))
 
-        pub round-stops : {number : ℕ} → r ≡ Stops number → RunsTo sheet index question attributes budget limit lent kept whole (first .steps) mem′ (End.Stops number m)
+        pub round-stops : {number : ℕ} → r ≡ Stops number → RunsTo sheet index question budget limit lent kept whole (first .steps) mem′ (End.Stops number m)
         unfolding steppedOf
         round-stops is =
             let same : mem′ ≡ mem = rw is at (steps .still) in
             rw same (invariant-stops now-holds limit (steps .skip) (steps .packed) (steps .width) (steps .packs) (came is))
 
       -- the store's index then
-      pub round-linked : keptAfter r m ≡ m .kept → Linked store′ (m .kept) links′
-      round-linked is = rw is at (steps .linked)
+      pub paused-linked : r ≡ Waits → Linked store′ (m .kept) links′
+      unfolding keptAfter
+      paused-linked is = rw is at (steps .linked)
+
+      pub finished-linked : r ≡ Finishes → Linked store′ (m .kept) links′
+      unfolding keptAfter
+      finished-linked is = rw is at (steps .linked)
+
+      pub stopped-linked : {number : ℕ} → r ≡ Stops number → Linked store′ (m .kept) links′
+      unfolding keptAfter
+      stopped-linked is = rw is at (steps .linked)

@@ -1,22 +1,24 @@
 -- One move, by whether a head is read, the run is over, or a value is given.
-use mathlib.Core.Bool.{Bool, true, false, cond, false≢true}
+use mathlib.Core.Bool.{Bool, true, false, not, cond, false≢true}
 use mathlib.Core.List.{List, [], _∷_}
 use mathlib.Core.Path.{_≡_, refl, sym, ap, _∙_}
-use Prim.Native.Nat.{ℕ, _-_}
+use Prim.Native.Nat.{ℕ, _-_, _≤_}
 use native.Mathlib.Omega.{arith}
 use lib.ListN.{getD}
-use borrow.Author.Tests.{eq-eqb, ne-eqb}
+use borrow.Author.Tests.{eq-eqb, ne-eqb, not-true, not-false}
+use Rattle.saiga.specs.Limits.{budgetLimit}
 use Rattle.saiga.specs.Expressions.{Head, base-literal, function-literal, if-head, application-head, attribute-head, this-head, parameter-head, no-head, headOf}
 use Rattle.engine.specs.RunningPiece.{restOf}
-use Rattle.stores.specs.Keys.{Linked}
 use Rattle.engine.specs.declared.Registers.{Registers}
 use Rattle.engine.specs.Steps.{Memory, goes, readHead, readNext, stepOf}
-use Rattle.engine.specs.Ready.{memoryOf}
+use Rattle.engine.specs.Ready.{memoryOf, ReadReady}
 use Rattle.engine.proofs.Widths.{width-of}
-use Rattle.attributes.specs.declared.Step.{Step}
-use Rattle.attributes.specs.declared.Step.the-variants.{Goes, Finishes}
-use Rattle.attributes.specs.Due.{steppedOf, keptAfter, keptIn}
-use Rattle.runs.specs.Moves.{GivesTo, StepsTo}
+use Rattle.engine.proofs.RunMemory.{frame-at}
+use Rattle.engine.proofs.ReadyForCode.{read-ready, frames-inside}
+use Rattle.engine.specs.declared.Step.{Step}
+use Rattle.engine.specs.declared.Step.the-variants.{Goes, Finishes}
+use Rattle.engine.specs.CodeSteps.{steppedOf, keptAfter, keptIn}
+use Rattle.runs.specs.Moves.{MoveReady, GivesTo, StepsTo}
 
 -- what a test chooses
 first-of : {A : Type 0} {x : A} (b : Bool) (y : A) → b ≡ true → x ≡ cond b x y
@@ -37,30 +39,40 @@ head-keeps sheet mem m this-head l = refl
 head-keeps sheet mem m parameter-head l = refl
 head-keeps sheet mem m no-head l = refl
 
-reading-keeps : (sheet index : List ℕ) (attributes : ℕ) (mem : Memory) (m : Registers) (l : List ℕ) → keptIn (m .kept) (readNext sheet index attributes mem m l) ≡ m .kept
+reading-keeps : (sheet index : List ℕ) (mem : Memory) (m : Registers) (l : List ℕ) → keptIn (m .kept) (readNext sheet index mem m l) ≡ m .kept
 unfolding readNext
-reading-keeps sheet index attributes mem m [] = refl
-reading-keeps sheet index attributes mem m (c ∷ l) = head-keeps sheet mem m (headOf c) l
+reading-keeps sheet index mem m [] = refl
+reading-keeps sheet index mem m (c ∷ l) = head-keeps sheet mem m (headOf c) l
 
-module _ (sheet index question : List ℕ) (attributes budget limit : ℕ) (store words forms : List ℕ) (m : Registers) where
+-- A move is due.
+pub record MoveDue (sheet index question store links run : List ℕ) (budget limit : ℕ) (m : Registers) : Type 0 where
+  pub ready : MoveReady sheet index question store links run m
+  pub permitted : budget ≤ budgetLimit
+
+module _ (sheet index question store links run : List ℕ) (budget limit : ℕ) (m : Registers)
+    (due : MoveDue sheet index question store links run budget limit m) where
   abbrev mem : Memory
-  mem = memoryOf store words forms
+  mem = memoryOf store run
 
   abbrev rest : List ℕ
   rest = restOf sheet question (m .forms) (m .at) (m .end)
 
   abbrev Steps : Memory → List ℕ → Step → Type 0
-  Steps mem′ links r = StepsTo sheet index question attributes budget limit mem mem′ links m r
+  Steps mem′ links′ r = StepsTo sheet index question budget limit mem mem′ links′ m r
 
-  pub steps-reading : m .returning ≡ false → {links : List ℕ} → Linked store (m .kept) links → {e words′ : List ℕ} {after : Registers} → e ≡ rest
-      → ((index : List ℕ) (attributes : ℕ) (store : List ℕ)
-      → goes after (memoryOf store words′ forms) ≡ readNext sheet index attributes (memoryOf store words forms) m e)
-      → Steps (memoryOf store words′ forms) links (Goes after)
+  pub reading-ready : (e : List ℕ) → e ≡ rest → not (m .returning) ≡ true → ReadReady sheet e run m
+  reading-ready e at evaluates = rw at (read-ready _ (due .ready .represents) (not-true _ evaluates))
+
+  pub steps-reading : (e run′ : List ℕ) (after : Registers) → not (m .returning) ≡ true → e ≡ rest
+      → ((index : List ℕ) (store : List ℕ)
+      → goes after (memoryOf store run′) ≡ readNext sheet index (memoryOf store run) m e)
+      → Steps (memoryOf store run′) links (Goes after)
   unfolding steppedOf keptAfter stepOf
-  steps-reading evaluates linked {after} at reads =
+  steps-reading e run′ after taken at reads =
+      let evaluates = not-true (m .returning) taken in
       let (skip, width) = width-of rest in
-      let read = rw at at (reads index attributes store) in
-      let keeps : after .kept ≡ m .kept = ap (keptIn (m .kept)) read ∙ reading-keeps sheet index attributes mem m rest in
+      let read = rw at at (reads index store) in
+      let keeps : after .kept ≡ m .kept = ap (keptIn (m .kept)) read ∙ reading-keeps sheet index mem m rest in
       record {
         skip = skip;
         packed = 0;
@@ -68,33 +80,34 @@ module _ (sheet index question : List ℕ) (attributes budget limit : ℕ) (stor
         packs = λ gives some. absurd (false≢true (sym evaluates ∙ gives));
         moved = read ∙ second-of _ _ evaluates;
         still = tt;
-        linked = rw keeps linked;
+        linked = rw keeps (due .ready .linked);
       }
 
-  pub steps-finishing : m .returning ≡ true → m .frames ≡ 0 → {links : List ℕ} → Linked store (m .kept) links → Steps mem links Finishes
+  pub steps-finishing : not (m .returning) ≡ false → m .frames ≡ 0 → Steps mem links Finishes
   unfolding steppedOf keptAfter stepOf
-  steps-finishing gives none linked =
+  steps-finishing gives none =
       let (skip, width) = width-of rest in
       record {
         skip = skip;
         packed = 0;
         width = width;
         packs = λ _ some. absurd (omega arith);
-        moved = first-of _ _ (eq-eqb (m .frames) 0 none) ∙ first-of _ _ gives;
+        moved = first-of _ _ (eq-eqb (m .frames) 0 none) ∙ first-of _ _ (not-false (m .returning) gives);
         still = refl;
-        linked = linked;
+        linked = due .ready .linked;
       }
 
-  pub steps-giving : m .returning ≡ true → (m .frames ≡ 0 → ⊥) → {mem′ : Memory} {links : List ℕ} {r : Step}
-      → GivesTo sheet index question attributes budget limit mem mem′ links m (getD words (m .frames - 1) 0) r → Steps mem′ links r
+  pub steps-giving : (mem′ : Memory) (links′ : List ℕ) (r : Step) → not (m .returning) ≡ false → (m .frames ≡ 0 → ⊥)
+      → GivesTo sheet index question budget limit mem mem′ links′ m (getD run (m .frames - 1) 0) r → Steps mem′ links′ r
   unfolding stepOf
-  steps-giving gives some given =
+  steps-giving mem′ links′ r gives some given =
+      let inside = frames-inside run (due .ready .represents) in
       record {
         skip = given .skip;
         packed = given .packed;
         width = given .width;
         packs = given .packs;
-        moved = given .moved ∙ second-of _ _ (ne-eqb (m .frames) 0 some) ∙ first-of _ _ gives;
+        moved = rw (frame-at run (m .frames - 1) (omega arith)) at (given .moved) ∙ second-of _ _ (ne-eqb (m .frames) 0 some) ∙ first-of _ _ (not-false (m .returning) gives);
         still = given .still;
         linked = given .linked;
       }

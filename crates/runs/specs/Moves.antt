@@ -5,6 +5,7 @@ use mathlib.Core.Path.{_≡_}
 use Prim.Native.Nat.{ℕ, _≤_, _<_}
 use lib.ListN.{length}
 use Rattle.saiga.specs.Limits.{expressionLimit}
+use Rattle.saiga.specs.Limits.{budgetLimit}
 use Rattle.saiga.specs.Caching.{with-value, Reason, by, Ended}
 use Rattle.saiga.specs.Ask.{reasonNumber}
 use Rattle.engine.specs.RunningPiece.{restOf}
@@ -14,16 +15,16 @@ use Rattle.engine.specs.Steps.{Memory, give, stepOf}
 use Rattle.engine.specs.Represents.{Represents, WidthOf, PacksIn}
 use Rattle.engine.specs.Ready.{memoryOf}
 use Rattle.engine.specs.Loop.{Invariant, Final}
-use Rattle.attributes.specs.declared.Step.{Step}
-use Rattle.attributes.specs.Due.{steppedOf, keptAfter, Still}
+use Rattle.engine.specs.declared.Step.{Step}
+use Rattle.engine.specs.CodeSteps.{steppedOf, keptAfter, Still}
 use Rattle.runs.specs.declared.RunEnd.{RunEnd}
 use Rattle.runs.specs.declared.RunEnd.the-variants.{Pauses, Finishes, Stops}
 
 -- ---- A move
 
 -- Registers and memory hold a machine, the store is indexed, and the question is of its length.
-pub record MoveReady (sheet index question : List ℕ) (attributes : ℕ) (store links words forms : List ℕ) (m : Registers) : Type 0 where
-  pub represents : Represents sheet index question attributes (memoryOf store words forms) m
+pub record MoveReady (sheet index question : List ℕ) (store links run : List ℕ) (m : Registers) : Type 0 where
+  pub represents : Represents sheet index question (memoryOf store run) m
   pub linked : Linked store (m .kept) links
   pub short : length question ≤ expressionLimit
 
@@ -39,24 +40,25 @@ module _ (sheet question : List ℕ) (mem mem′ : Memory) (links : List ℕ) (m
     pub still : Still r mem mem′
     pub linked : Linked (mem′ .store) (keptAfter r m) links
 
-module _ (sheet index question : List ℕ) (attributes budget limit : ℕ) (mem mem′ : Memory) (links : List ℕ) (m : Registers) where
+module _ (sheet index question : List ℕ) (budget limit : ℕ) (mem mem′ : Memory) (links : List ℕ) (m : Registers) where
   -- a value is given to the frame whose word is w
   abbrev pub GivesTo : ℕ → Step → Type 0
   GivesTo w r =
-      MovesBy sheet question mem mem′ links m r (λ skip packed. steppedOf r mem′ ≡ give sheet index attributes budget limit skip packed mem m w)
+      MovesBy sheet question mem mem′ links m r (λ skip packed. steppedOf r mem′ ≡ give sheet index budget limit skip packed mem m w)
 
   abbrev pub StepsTo : Step → Type 0
   StepsTo r =
-      MovesBy sheet question mem mem′ links m r (λ skip packed. steppedOf r mem′ ≡ stepOf sheet index attributes question budget limit skip packed mem m)
+      MovesBy sheet question mem mem′ links m r (λ skip packed. steppedOf r mem′ ≡ stepOf sheet index question budget limit skip packed mem m)
 
 -- ---- A run
 
 -- A run is under way: what holds from move to move holds, of some call.
-pub record Running (sheet index question : List ℕ) (attributes budget : ℕ) (store links words forms : List ℕ) (m : Registers) : Type 0 where
+pub record Running (sheet index question : List ℕ) (budget : ℕ) (store links run : List ℕ) (m : Registers) : Type 0 where
   pub lent : List ℕ
   pub kept : ℕ
   pub whole : Ended
-  pub invariant : Invariant sheet index question attributes budget lent kept whole (memoryOf store words forms) m
+  pub invariant : Invariant sheet index question budget lent kept whole (memoryOf store run) m
+  pub permitted : budget ≤ budgetLimit
   pub linked : Linked store (m .kept) links
   pub short : length question ≤ expressionLimit
 
@@ -68,9 +70,9 @@ keptBy (Stops number m) = m .kept
 
 -- A run that ends so, of a call that was lent these bytes with so many kept entries, leaves off: paused with a counted step due, at the limit
 -- unless it was past it at first; with its value; or with the number of its reason.
-module _ (sheet index question : List ℕ) (attributes budget limit : ℕ) (lent : List ℕ) (kept : ℕ) (whole : Ended) (first : ℕ) (mem : Memory) where
+module _ (sheet index question : List ℕ) (budget limit : ℕ) (lent : List ℕ) (kept : ℕ) (whole : Ended) (first : ℕ) (mem : Memory) where
   abbrev pub RunsTo : RunEnd → Type 0
   RunsTo (Pauses m) =
-      Invariant sheet index question attributes budget lent kept whole mem m × (limit ≤ m .steps) × (m .steps < budget) × (first ≤ limit → m .steps ≡ limit)
+      Invariant sheet index question budget lent kept whole mem m × (limit ≤ m .steps) × (m .steps < budget) × (first ≤ limit → m .steps ≡ limit)
   RunsTo (Finishes m) = Final lent kept whole (with-value (m .value)) mem m
   RunsTo (Stops number m) = (reason : Reason) × (reasonNumber reason ≡ number) × Final lent kept whole (by reason) mem m

@@ -1,20 +1,29 @@
 // A move of the machine, and the run: moves until it ends or a counted step is due at a limit (document 01, "The steps").
-use attributes::Step;
+use engine::Limits;
 use engine::Registers;
+use engine::Step;
+use engine::frames::ON_FORM;
+use engine::frames::ON_IF;
+use engine::frames::ON_LEFT;
+use engine::frames::ON_NODE;
+use engine::frames::ON_RIGHT;
+use engine::frames::ON_SKIP;
 ghost use mathlib.Core.Bool.{true};
 ghost use mathlib.Core.List.{List};
 ghost use mathlib.Core.Path.{_≡_};
-ghost use Prim.Native.Nat.{ℕ, _+_, _-_, _/_, _%_, _^_, _≤_, _<_};
+ghost use Prim.Native.Nat.{ℕ, _+_, _-_, _^_, _≤_, _<_};
 ghost use lib.ListN.{length, getD};
+ghost use Rattle.saiga.specs.Limits.{budgetLimit};
 ghost use Rattle.saiga.specs.Values.{truth, apply as applied};
 ghost use Rattle.saiga.specs.Caching.{Ended};
 ghost use Rattle.values.specs.Packed.{valueIn};
 ghost use Rattle.expressions.specs.Widths.{Starts};
 ghost use Rattle.stores.specs.Keys.{Linked};
 ghost use Rattle.engine.specs.Steps.{Memory, goes, answered as answeredBy, takeIf, within};
-ghost use Rattle.engine.specs.Ready.{memoryOf, Passes};
+ghost use Rattle.engine.specs.Ready.{memoryOf, FrameReady, Passes};
 ghost use Rattle.engine.specs.Loop.{Invariant};
-ghost use Rattle.attributes.specs.Due.{steppedOf, keptAfter, Still};
+ghost use Rattle.engine.specs.CodeSteps.{steppedOf, keptAfter, Still};
+ghost use Rattle.engine.specs.FrameWords.{heldFunction};
 ghost use Rattle.runs.specs.Moves.{MoveReady, GivesTo, StepsTo, Running, keptBy, RunsTo};
 
 // How a run leaves off: with a counted step due at the limit, with its value, or with a stop's number; and the registers then.
@@ -25,87 +34,72 @@ pub enum RunEnd {
 }
 
 // IF has its condition: the limits of a counted step, then the step. `e` is the rest of the running piece.
-fn give_if(e: &[u8], frames: &mut [u64], budget: usize, limit: usize, m: Registers) -> Step
+fn give_if(e: &[u8], memory: &mut [u64], limits: Limits, m: Registers) -> Step
     requires { ⌜ Starts (now e) ⌝ }
-    requires { ⌜ (1 ≤ m .frames) × (m .frames ≤ length (now frames)) × (m .at + length (now e) < 2 ^ 64) ⌝ }
-    ensures { λ r. ⌜ Passes (now (e .entry)) (λ skip. (store forms : List ℕ)
-        → steppedOf r (memoryOf store (now (frames .exit)) forms)
-        ≡ within budget limit m (takeIf skip (memoryOf store (now (frames .entry)) forms) m (truth (m .value)))) ⌝ }
-    ensures { λ r. ⌜ ((store forms : List ℕ) → Still r (memoryOf store (now (frames .entry)) forms) (memoryOf store (now (frames .exit)) forms)) ⌝ }
-    ensures { λ _. ⌜ length (now (frames .exit)) ≡ length (now (frames .entry)) ⌝ }
+    requires { ⌜ FrameReady (now memory) m × (m .at + length (now e) < 2 ^ 64) ⌝ }
+    ensures { λ r. ⌜ Passes (now (e .entry)) (λ skip. (store : List ℕ)
+        → steppedOf r (memoryOf store (now (memory .exit)))
+        ≡ within (limits .budget) (limits .pause) m (takeIf skip (memoryOf store (now (memory .entry))) m (truth (m .value)))) ⌝ }
+    ensures { λ r. ⌜ ((store : List ℕ) → Still r (memoryOf store (now (memory .entry))) (memoryOf store (now (memory .exit)))) ⌝ }
 {
-    if budget <= m.steps {
+    if limits.budget <= m.steps {
         return Step::Stops(15);
     }
-    if limit <= m.steps {
+    if limits.pause <= m.steps {
         return Step::Waits;
     }
-    Step::Goes(engine::take_if(e, frames, m))
+    Step::Goes(engine::take_if(e, memory, m))
 }
 
 // An application has its argument: the limits of a counted step, then the step, with the function that the frame's word holds.
-fn give_right(budget: usize, limit: usize, m: Registers, w: u64) -> Step
+fn give_right(limits: Limits, m: Registers, w: u64) -> Step
     requires { ⌜ 1 ≤ m .frames ⌝ }
     ensures { λ r. ⌜ ((mem : Memory) → steppedOf r mem
-        ≡ within budget limit m (goes (answeredBy m (m .kept) (applied (valueIn (w / 8 % 68719476736)) (m .value))) mem)) ⌝ }
+        ≡ within (limits .budget) (limits .pause) m (goes (answeredBy m (m .kept) (applied (valueIn (heldFunction w)) (m .value))) mem)) ⌝ }
 {
-    if budget <= m.steps {
+    if limits.budget <= m.steps {
         return Step::Stops(15);
     }
-    if limit <= m.steps {
+    if limits.pause <= m.steps {
         return Step::Waits;
     }
     Step::Goes(engine::take_right(m, w))
 }
 
-// A value is given to the innermost frame, whose word is `w`.
+// A value is given to the innermost frame.
 fn give<'a>(
     sheet: &'a [u8],
     index: &[u32],
-    attributes: usize,
     question: &'a [u8],
     store: &mut [u8],
     links: &mut [u32],
-    frames: &mut [u64],
-    forms: &mut [u32],
-    budget: usize,
-    limit: usize,
+    memory: &mut [u64],
+    limits: Limits,
     m: Registers,
-    w: u64,
 ) -> Step
-    requires { ⌜ MoveReady (now sheet) (now index) (now question) attributes (now store) (now links) (now frames) (now forms) m ⌝ }
-    requires { ⌜ (m .returning ≡ true) × (0 < m .frames) × (w ≡ getD (now frames) (m .frames - 1) 0) ⌝ }
-    ensures { λ r. ⌜ GivesTo (now (sheet .entry)) (now (index .entry)) (now (question .entry)) attributes budget limit
-        (memoryOf (now (store .entry)) (now (frames .entry)) (now (forms .entry))) (memoryOf (now (store .exit)) (now (frames .exit)) (now (forms .exit)))
-        (now (links .exit)) m w r ⌝ }
+    requires { ⌜ MoveReady (now sheet) (now index) (now question) (now store) (now links) (now memory) m ⌝ }
+    requires { ⌜ (m .returning ≡ true) × (0 < m .frames) × (limits .budget ≤ budgetLimit) ⌝ }
+    ensures { λ r. ⌜ GivesTo (now (sheet .entry)) (now (index .entry)) (now (question .entry)) (limits .budget) (limits .pause)
+        (memoryOf (now (store .entry)) (now (memory .entry))) (memoryOf (now (store .exit)) (now (memory .exit))) (now (links .exit)) m
+        (getD (now (memory .entry)) (m .frames - 1) 0) r ⌝ }
 {
-    let kind = w % 8;
+    let top = m.frames - 1;
+    let w = memory[top];
+    let kind = engine::frames::kind(w);
     match kind {
-        0 => {
+        ON_IF => {
             let e = engine::running(sheet, question, m.forms, m.at, m.end);
-            give_if(e, frames, budget, limit, m)
+            give_if(e, memory, limits, m)
         }
-        1 => Step::Goes(engine::take_left(frames, m)),
-        2 => {
+        ON_LEFT => Step::Goes(engine::take_left(memory, m)),
+        ON_SKIP => {
             let e = engine::running(sheet, question, m.forms, m.at, m.end);
             Step::Goes(engine::take_skip(e, m))
         }
-        3 => give_right(budget, limit, m, w),
-        4 => Step::Goes(engine::take_node(frames, m, w / 8 % 32)),
-        6 => Step::Goes(attributes::close_form(store, links, forms, m)),
-        _ => attributes::attribute_due(
-            sheet,
-            index,
-            attributes,
-            store,
-            links,
-            frames,
-            forms,
-            budget,
-            limit,
-            m,
-            w,
-        ),
+        ON_RIGHT => give_right(limits, m, w),
+        ON_NODE => Step::Goes(engine::take_node(memory, m, engine::frames::attribute(w))),
+        ON_FORM => Step::Goes(attributes::close_form(store, links, memory, m)),
+        _ => attributes::attribute_due(sheet, index, store, links, memory, limits, m, w),
     }
 }
 
@@ -113,83 +107,49 @@ fn give<'a>(
 pub fn step<'a>(
     sheet: &'a [u8],
     index: &[u32],
-    attributes: usize,
     question: &'a [u8],
     store: &mut [u8],
     links: &mut [u32],
-    frames: &mut [u64],
-    forms: &mut [u32],
-    budget: usize,
-    limit: usize,
+    memory: &mut [u64],
+    limits: Limits,
     m: Registers,
 ) -> Step
-    requires { ⌜ MoveReady (now sheet) (now index) (now question) attributes (now store) (now links) (now frames) (now forms) m ⌝ }
-    ensures { λ r. ⌜ StepsTo (now (sheet .entry)) (now (index .entry)) (now (question .entry)) attributes budget limit
-        (memoryOf (now (store .entry)) (now (frames .entry)) (now (forms .entry))) (memoryOf (now (store .exit)) (now (frames .exit)) (now (forms .exit)))
-        (now (links .exit)) m r ⌝ }
+    requires { ⌜ MoveReady (now sheet) (now index) (now question) (now store) (now links) (now memory) m × (limits .budget ≤ budgetLimit) ⌝ }
+    ensures { λ r. ⌜ StepsTo (now (sheet .entry)) (now (index .entry)) (now (question .entry)) (limits .budget) (limits .pause)
+        (memoryOf (now (store .entry)) (now (memory .entry))) (memoryOf (now (store .exit)) (now (memory .exit))) (now (links .exit)) m r ⌝ }
 {
     if !m.returning {
         let e = engine::running(sheet, question, m.forms, m.at, m.end);
-        return Step::Goes(engine::read_head(sheet, e, frames, forms, m));
+        return Step::Goes(engine::read_head(sheet, e, memory, m));
     }
     if m.frames == 0 {
         return Step::Finishes;
     }
-    let top = m.frames - 1;
-    let w = frames[top];
-    give(
-        sheet,
-        index,
-        attributes,
-        question,
-        store,
-        links,
-        frames,
-        forms,
-        budget,
-        limit,
-        m,
-        w,
-    )
+    give(sheet, index, question, store, links, memory, limits, m)
 }
 
 // The run from the registers `first`. A run that pauses goes on from its registers, with another limit, as if it had not paused.
 pub fn run<'a>(
     sheet: &'a [u8],
     index: &[u32],
-    attributes: usize,
     question: &'a [u8],
     store: &mut [u8],
     links: &mut [u32],
-    frames: &mut [u64],
-    forms: &mut [u32],
-    budget: usize,
-    limit: usize,
+    memory: &mut [u64],
+    limits: Limits,
     first: Registers,
 ) -> RunEnd
-    requires { ⌜ Running (now sheet) (now index) (now question) attributes budget (now store) (now links) (now frames) (now forms) first ⌝ }
+    requires { ⌜ Running (now sheet) (now index) (now question) (limits .budget) (now store) (now links) (now memory) first ⌝ }
     ensures { λ r. ⌜ ((lent : List ℕ) (kept : ℕ) (whole : Ended)
-        → Invariant (now (sheet .entry)) (now (index .entry)) (now (question .entry)) attributes budget lent kept whole
-        (memoryOf (now (store .entry)) (now (frames .entry)) (now (forms .entry))) first
-        → RunsTo (now (sheet .entry)) (now (index .entry)) (now (question .entry)) attributes budget limit lent kept whole (first .steps)
-        (memoryOf (now (store .exit)) (now (frames .exit)) (now (forms .exit))) r) ⌝ }
+        → Invariant (now (sheet .entry)) (now (index .entry)) (now (question .entry)) (limits .budget) lent kept whole
+        (memoryOf (now (store .entry)) (now (memory .entry))) first
+        → RunsTo (now (sheet .entry)) (now (index .entry)) (now (question .entry)) (limits .budget) (limits .pause) lent kept whole (first .steps)
+        (memoryOf (now (store .exit)) (now (memory .exit))) r) ⌝ }
     ensures { λ r. ⌜ Linked (now (store .exit)) (keptBy r) (now (links .exit)) ⌝ }
 {
     let mut m = first;
     loop {
-        match step(
-            sheet,
-            index,
-            attributes,
-            question,
-            store,
-            links,
-            frames,
-            forms,
-            budget,
-            limit,
-            m,
-        ) {
+        match step(sheet, index, question, store, links, memory, limits, m) {
             Step::Goes(next) => {
                 m = next;
             }

@@ -15,7 +15,7 @@ use Rattle.saiga.specs.Expressions.{Expr}
 use Rattle.saiga.specs.Types.{attributeAt}
 use Rattle.saiga.specs.Sheet.{Sheet, nodeCount, attributeCount, refused_at-place_, accepted}
 use Rattle.saiga.specs.Caching.{Entry, kept, isKept, write, State, run}
-use Rattle.saiga.specs.Store.{entryBytes, entryOf, isEntry, readEntries, capacity, checkStore, entriesBytes, leftStore}
+use Rattle.saiga.specs.Store.{fieldBytes, fieldsOf, fieldsFor, entryBytes, entryOf, isEntry, readEntries, capacity, checkStore, entriesBytes, leftStore}
 use Rattle.saiga.specs.Sound.{IsA, EntryIn, All, all-none, all-cons}
 use Rattle.saiga.proofs.FourBytes.{word-in, word-small, bytes-trip}
 use Rattle.saiga.proofs.Preservation.{either, run-case}
@@ -23,16 +23,16 @@ use Rattle.saiga.proofs.Preservation.{either, run-case}
 -- ---- One entry
 
 pub entry-length : (e : Entry) → length (entryBytes e) ≡ 12
-unfolding entryBytes toBytes
+unfolding fieldBytes fieldsFor entryBytes toBytes
 entry-length e = refl
 
 -- What the tests of twelve bytes say.
 record Passes (s : Sheet) (before : List Entry) (l : List ℕ) : Type 0 where
-  node-declared : ofBytes (take 2 l) < nodeCount s
-  attribute-declared : getD l 2 0 < attributeCount s
-  zero-byte : getD l 3 0 ≡ 0
-  parameter-word : isWord (nodeCount s) (attributeAt (s .attributes) (getD l 2 0) .parameter-type) (ofBytes (take 4 (drop 4 l))) ≡ true
-  value-word : isWord (nodeCount s) (attributeAt (s .attributes) (getD l 2 0) .result) (ofBytes (take 4 (drop 8 l))) ≡ true
+  node-declared : fieldsOf l .node < nodeCount s
+  attribute-declared : fieldsOf l .attribute < attributeCount s
+  zero-byte : fieldsOf l .fourth ≡ 0
+  parameter-word : isWord (nodeCount s) (attributeAt (s .attributes) (fieldsOf l .attribute) .parameter-type) (fieldsOf l .parameter) ≡ true
+  value-word : isWord (nodeCount s) (attributeAt (s .attributes) (fieldsOf l .attribute) .result) (fieldsOf l .value) ≡ true
   not-kept : isKept (kept before (entryOf s l .occurrence)) ≡ false
 
 passes : (s : Sheet) (before : List Entry) (l : List ℕ) → isEntry s before l ≡ true → Passes s before l
@@ -61,7 +61,7 @@ module _ (s : Sheet) (e : Entry) (few : nodeCount s ≤ 1024) (h : EntryIn (node
   word-bytes {B} {v} i = bytes-trip 4 (toWord v) (word-small (nodeCount s) B (toWord v) (omega arith) (i .is-word))
 
   pub entry-trip : entryOf s (entryBytes e) ≡ e
-  unfolding entryOf entryBytes toBytes
+  unfolding entryOf entryBytes fieldsOf fieldBytes fieldsFor toBytes
   entry-trip i = record {
     occurrence = record {
       node = node-bytes i;
@@ -72,7 +72,7 @@ module _ (s : Sheet) (e : Entry) (few : nodeCount s ≤ 1024) (h : EntryIn (node
   }
 
   pub entry-passes : (before : List Entry) → isKept (kept before (e .occurrence)) ≡ false → isEntry s before (entryBytes e) ≡ true
-  entry-passes before q = is-entry s before (entryBytes e) (unfold entryBytes toBytes in record {
+  entry-passes before q = is-entry s before (entryBytes e) (unfold entryBytes fieldsOf fieldBytes fieldsFor toBytes in record {
     node-declared = rw node-bytes (h .occurrence-in .node-declared);
     attribute-declared = h .occurrence-in .attribute-declared;
     zero-byte = refl;
@@ -106,12 +106,12 @@ drop-take (suc n) m [] = rw suc-add (sym (take-nil m))
 drop-take (suc n) m (x ∷ l) = rw suc-add (drop-take n m l)
 
 module _ (s : Sheet) where
-  read-one : (k : ℕ) (before : List Entry) (l : List ℕ) → isEntry s before (take 12 l) ≡ true
+  pub read-one : (k : ℕ) (before : List Entry) (l : List ℕ) → isEntry s before (take 12 l) ≡ true
       → readEntries s (suc k) before l ≡ readEntries s k (before ++ entryOf s (take 12 l) ∷ []) (drop 12 l)
   unfolding readEntries
   read-one k before l e = rw (e, readEntries)
 
-  read-none : (k : ℕ) (before : List Entry) (l : List ℕ) → isEntry s before (take 12 l) ≡ false
+  pub read-none : (k : ℕ) (before : List Entry) (l : List ℕ) → isEntry s before (take 12 l) ≡ false
       → readEntries s (suc k) before l ≡ refused 10 at-place (length before)
   unfolding readEntries
   read-none k before l e = rw (e, readEntries)
@@ -224,7 +224,7 @@ store-in s store k es q = go (eqb (length store % 12) 0 && leb (length store) 12
         }
     go false e q = absurd (let z : _≡_ {A = ℕ} 0 1 = cc in omega arith)
 
-entries-length : (es : List Entry) → length (entriesBytes es) ≡ 12 * length es
+pub entries-length : (es : List Entry) → length (entriesBytes es) ≡ 12 * length es
 unfolding entriesBytes
 entries-length [] = refl
 entries-length (e ∷ es) = rw (length-append, entry-length, entries-length es) (omega arith)

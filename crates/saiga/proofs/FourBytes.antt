@@ -9,16 +9,16 @@ use lib.IntN.{ℤ, pos, negsuc}
 use lib.ListN.{length}
 use lib.Signed.{mag}
 use borrow.Author.Tests.{ltb-true, ltb-false, eqb-true, eqb-false, lt-ltb, le-ltb, eq-eqb}
-use Rattle.saiga.specs.Values.{Base, unitT, boolT, intT, nodeT, base, Value, bool, int, typeOf, null, lowest, highest, held, equalZ, words, signBit, ofBytes, toBytes, signed, unsigned, bit, isWord, ofWord, toWord, typeCode, sameValue}
+use Rattle.saiga.specs.Values.{Base, unitT, boolT, intT, nodeT, base, Value, bool, int, typeOf, null, lowest, highest, held, equalZ, wordLimit, signBit, ofBytes, toBytes, signed, unsigned, bit, isWord, ofWord, toWord, typeCode, sameValue}
 use Rattle.saiga.specs.Sound.{IsA}
 
 -- ---- The form of a value
 
-unsigned-signed : (w : ℕ) → w < words → unsigned (signed w) ≡ w
+unsigned-signed : (w : ℕ) → w < wordLimit → unsigned (signed w) ≡ w
 unfolding unsigned signed
 unsigned-signed w h = go (ltb w signBit)
   where
-    go : (b : Bool) → unsigned (cond b (pos w) (negsuc (words - 1 - w))) ≡ w
+    go : (b : Bool) → unsigned (cond b (pos w) (negsuc (wordLimit - 1 - w))) ≡ w
     go true = refl
     go false = omega arith
 
@@ -33,7 +33,7 @@ pub word-trip : (nodes : ℕ) (B : Base) (w : ℕ) → isWord nodes B w ≡ true
 unfolding isWord ofWord toWord
 word-trip nodes unitT w h = sym (eqb-true w 0 h)
 word-trip nodes boolT w h = bit-is-one w (ltb-true w 2 h)
-word-trip nodes intT w h = unsigned-signed w (ltb-true w words h)
+word-trip nodes intT w h = unsigned-signed w (ltb-true w wordLimit h)
 word-trip nodes nodeT w h = refl
 
 -- a word of a type on a sheet of so many nodes is one on a larger
@@ -55,14 +55,14 @@ word-more {nodes} {more} nodeT w n h = go (ltb w nodes) refl h
 pub word-in : (nodes : ℕ) (B : Base) (w : ℕ) → isWord nodes B w ≡ true → IsA nodes B (ofWord B w)
 word-in nodes B w h = record { is-word = rw (word-trip nodes B w h) h; round-trip = rw (word-trip nodes B w h) }
 
-pub word-small : (nodes : ℕ) (B : Base) (w : ℕ) → nodes ≤ 65536 → isWord nodes B w ≡ true → w < words
+pub word-small : (nodes : ℕ) (B : Base) (w : ℕ) → nodes ≤ 65536 → isWord nodes B w ≡ true → w < wordLimit
 unfolding isWord
 word-small nodes unitT w n h = let e = eqb-true w 0 h in omega arith
 word-small nodes boolT w n h = let e = ltb-true w 2 h in omega arith
-word-small nodes intT w n h = ltb-true w words h
+word-small nodes intT w n h = ltb-true w wordLimit h
 word-small nodes nodeT w n h = go (ltb w nodes) refl h
   where
-    go : (b : Bool) → ltb w nodes ≡ b → (b || eqb w null) ≡ true → w < words
+    go : (b : Bool) → ltb w nodes ≡ b → (b || eqb w null) ≡ true → w < wordLimit
     go true e k = let l = ltb-true w nodes e in omega arith
     go false e k = let l = eqb-true w null k in omega arith
 
@@ -101,9 +101,9 @@ bool-in nodes false = record { is-word = refl; round-trip = refl }
 pub signed-unsigned : (z : ℤ) → mag z < signBit → signed (unsigned z) ≡ z
 unfolding signed unsigned
 signed-unsigned (pos n) h = rw (lt-ltb n signBit h)
-signed-unsigned (negsuc n) h = rw (le-ltb (words - 1 - n) signBit (omega arith)) (ap negsuc (omega arith))
+signed-unsigned (negsuc n) h = rw (le-ltb (wordLimit - 1 - n) signBit (omega arith)) (ap negsuc (omega arith))
 
-unsigned-small : (z : ℤ) → mag z < signBit → unsigned z < words
+unsigned-small : (z : ℤ) → mag z < signBit → unsigned z < wordLimit
 unfolding unsigned
 unsigned-small (pos n) h = omega arith
 unsigned-small (negsuc n) h = omega arith
@@ -111,7 +111,7 @@ unsigned-small (negsuc n) h = omega arith
 -- An Int is a number with `mag` below 2^31.
 int-in : (nodes : ℕ) (z : ℤ) → mag z < signBit → IsA nodes intT (int z)
 unfolding isWord ofWord toWord
-int-in nodes z h = record { is-word = lt-ltb (unsigned z) words (unsigned-small z h); round-trip = ap int (signed-unsigned z h) }
+int-in nodes z h = record { is-word = lt-ltb (unsigned z) wordLimit (unsigned-small z h); round-trip = ap int (signed-unsigned z h) }
 
 held-mag : (z : ℤ) → mag (held z) < signBit
 unfolding held

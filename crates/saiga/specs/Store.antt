@@ -9,33 +9,50 @@ use Rattle.saiga.specs.Values.{ofBytes, toBytes, isWord, ofWord, toWord}
 use Rattle.saiga.specs.Types.{attributeAt}
 use Rattle.saiga.specs.Sheet.{Sheet, nodeCount, attributeCount, Checked, refused_at-place_, accepted}
 use Rattle.saiga.specs.Caching.{Entry, kept, isKept}
+use Rattle.saiga.specs.declared.Fields.{Fields}
 
--- "An entry is node (2), attribute (1), a zero byte, parameter (4), value (4)."
+-- "An entry is node (2), attribute (1), a zero byte, parameter (4), value (4)": the bytes of its numbers, and the numbers in its bytes.
+unfoldable pub fieldBytes : Fields → List ℕ
+fieldBytes f = toBytes 2 (f .node) ++ f .attribute ∷ f .fourth ∷ toBytes 4 (f .parameter) ++ toBytes 4 (f .value)
+
+unfoldable pub fieldsOf : List ℕ → Fields
+fieldsOf l =
+    record {
+      node = ofBytes (take 2 l);
+      attribute = getD l 2 0;
+      fourth = getD l 3 0;
+      parameter = ofBytes (take 4 (drop 4 l));
+      value = ofBytes (take 4 (drop 8 l));
+    }
+
+-- the numbers of an entry that is kept, its parameter and its value in their four-byte forms
+unfoldable pub fieldsFor : ℕ → ℕ → ℕ → ℕ → Fields
+fieldsFor n a parameter value = record { node = n; attribute = a; fourth = 0; parameter = parameter; value = value }
+
 unfoldable pub entryBytes : Entry → List ℕ
 entryBytes e =
-    toBytes 2 (e .occurrence .node)
-    ++ e .occurrence .attribute ∷ 0 ∷ toBytes 4 (toWord (e .occurrence .parameter))
-    ++ toBytes 4 (toWord (e .value))
+    let o = e .occurrence in
+    fieldBytes (fieldsFor (o .node) (o .attribute) (toWord (o .parameter)) (toWord (e .value)))
 
 -- the entry that twelve bytes hold, by the types of its attribute
 unfoldable pub entryOf : Sheet → List ℕ → Entry
 entryOf s l =
-    let a = getD l 2 0 in
-    let t = attributeAt (s .attributes) a in
+    let f = fieldsOf l in
+    let t = attributeAt (s .attributes) (f .attribute) in
     record {
-      occurrence = record { node = ofBytes (take 2 l); attribute = a; parameter = ofWord (t .parameter-type) (ofBytes (take 4 (drop 4 l))) };
-      value = ofWord (t .result) (ofBytes (take 4 (drop 8 l)));
+      occurrence = record { node = f .node; attribute = f .attribute; parameter = ofWord (t .parameter-type) (f .parameter) };
+      value = ofWord (t .result) (f .value);
     }
 
 -- "10 a kept entry with undeclared node or attribute, nonzero fourth byte, bytes that are no value of the type, or an occurrence
 -- already kept before it": `before` are the entries before it.
 unfoldable pub isEntry : Sheet → List Entry → List ℕ → Bool
 isEntry s before l =
-    let a = getD l 2 0 in
-    let t = attributeAt (s .attributes) a in
-    ltb (ofBytes (take 2 l)) (nodeCount s) && ltb a (attributeCount s) && eqb (getD l 3 0) 0
-    && isWord (nodeCount s) (t .parameter-type) (ofBytes (take 4 (drop 4 l)))
-    && isWord (nodeCount s) (t .result) (ofBytes (take 4 (drop 8 l)))
+    let f = fieldsOf l in
+    let t = attributeAt (s .attributes) (f .attribute) in
+    ltb (f .node) (nodeCount s) && ltb (f .attribute) (attributeCount s) && eqb (f .fourth) 0
+    && isWord (nodeCount s) (t .parameter-type) (f .parameter)
+    && isWord (nodeCount s) (t .result) (f .value)
     && not (isKept (kept before (entryOf s l .occurrence)))
 
 -- The kept entries, the first number of them still to be read from `l`, those before them in `before`.

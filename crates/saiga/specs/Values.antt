@@ -143,9 +143,9 @@ apply (holding h) v = applyHolding h v
 
 -- ---- The four-byte form
 
--- "A base value takes four bytes": a number of four bytes is below `words`, and in two's complement those from the sign bit on are negative.
-abbrev pub words : ℕ
-words = 4294967296
+-- "A base value takes four bytes": a number of four bytes is below `wordLimit`, and in two's complement those from the sign bit on are negative.
+abbrev pub wordLimit : ℕ
+wordLimit = 4294967296
 
 abbrev pub signBit : ℕ
 signBit = 2147483648
@@ -161,11 +161,11 @@ toBytes (suc k) n = n % 256 ∷ toBytes k (n / 256)
 
 -- Int in two's complement, read from an unsigned number of four bytes and written as one.
 unfoldable pub signed : ℕ → ℤ
-signed w = cond (ltb w signBit) (pos w) (negsuc (words - 1 - w))
+signed w = cond (ltb w signBit) (pos w) (negsuc (wordLimit - 1 - w))
 
 unfoldable pub unsigned : ℤ → ℕ
 unsigned (pos n) = n
-unsigned (negsuc n) = words - 1 - n
+unsigned (negsuc n) = wordLimit - 1 - n
 
 abbrev pub bit : Bool → ℕ
 bit false = 0
@@ -175,7 +175,7 @@ bit true = 1
 unfoldable pub isWord : ℕ → Base → ℕ → Bool
 isWord nodes unitT w = eqb w 0
 isWord nodes boolT w = ltb w 2
-isWord nodes intT w = ltb w words
+isWord nodes intT w = ltb w wordLimit
 isWord nodes nodeT w = ltb w nodes || eqb w null
 
 -- "Unit 0; Bool 0 or 1; Int in two's complement; Node its declared number, or 65,535 for null."

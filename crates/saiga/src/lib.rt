@@ -1,4 +1,5 @@
-// The values of document 01, "Values and functions": the enums that the engine's code and the definitions of specs/ share.
+// The types that the engine's code and the definitions of specs/ share: the values of document 01, "Values and functions", and the numbers of
+// an entry.
 pub mod limits;
 
 // The functions by their codes 0 to 5.
@@ -20,7 +21,10 @@ pub enum Holding {
     Subtract(i32),
 }
 
-// A Node is its declared number, or 65,535 for null.
+// The number that stands for null among Node values.
+pub const NULL: u16 = 65535;
+
+// A Node is its declared number, or null.
 pub enum Value {
     Unit,
     Bool(bool),
@@ -28,4 +32,13 @@ pub enum Value {
     Node(u16),
     Function(Function),
     Holding(Holding),
+}
+
+// An entry of the store in numbers: its parameter and its value in their four-byte forms, and its fourth byte.
+pub struct Fields {
+    pub node: u32,
+    pub attribute: u32,
+    pub fourth: u32,
+    pub parameter: u32,
+    pub value: u32,
 }

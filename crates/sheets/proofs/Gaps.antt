@@ -2,84 +2,129 @@
 use mathlib.Core.Bool.{Bool, true, false, not}
 use mathlib.Core.List.{List}
 use mathlib.Core.Option.{Option, none, some}
-use mathlib.Core.Path.{_≡_, sym}
+use mathlib.Core.Path.{_≡_, refl, sym, ap, _∙_}
 use Prim.Native.Nat.{ℕ, zero, suc, _+_, _*_, _≤_, _<_}
 use native.Mathlib.Omega.{arith}
 use native.Mathlib.Numerals.{add-one}
 use lib.Dec.{eqb}
 use lib.ListN.{getD}
-use borrow.Author.Tests.{ne-eqb, eq-eqb}
+use borrow.Author.Tests.{ne-eqb, eq-eqb, not-true, not-false}
 use Rattle.sheets.specs.declared.Progress.{Progress}
+use Rattle.sheets.specs.declared.Gap.{Gap}
+use Rattle.sheets.specs.declared.Gap.the-variants.{At, Nowhere}
 use Rattle.sheets.specs.declared.SheetCheck.the-variants.{Refused, Accepted}
-use Rattle.sheets.specs.Scan.{pairIndexed, isIndexed, missingAt, missingFrom, scanned, scanOf}
+use Rattle.sheets.specs.Scan.{figurePlace, rulePlace, pairIndexed, isIndexed, missingAt, missingFrom, counted, scanned, scanOf, gapOf}
+use Rattle.values.specs.Layout.{kindAt}
 
 -- ---- A pair
 
-module _ (index : List ℕ) (n k a : ℕ) where
-  pub figure-defines : (getD index (n * 32 + a) 0 ≡ 0 → ⊥) → true ≡ pairIndexed index n k a
+module _ (index : List ℕ) (n k a place : ℕ) (here : place ≡ figurePlace n a) where
+  pub figure-defines : (getD index place 0 ≡ 0 → ⊥) → true ≡ pairIndexed index n k a
   unfolding pairIndexed
-  figure-defines h = rw (ne-eqb _ _ h)
+  figure-defines h = rw (← here, ne-eqb _ _ h)
 
-  pub rule-defines : getD index (n * 32 + a) 0 ≡ 0 → not (eqb (getD index (32768 + k * 32 + a) 0) 0) ≡ pairIndexed index n k a
+  pub rule-defines : getD index place 0 ≡ 0 → (rule : ℕ) → rule ≡ rulePlace k a → not (eqb (getD index rule 0) 0) ≡ pairIndexed index n k a
   unfolding pairIndexed
-  rule-defines e = rw (eq-eqb _ _ e)
+  rule-defines e rule rule-here = rw (← here, eq-eqb _ _ e, ← rule-here)
 
-module _ (bytes index : List ℕ) (attributes : ℕ) where
-  -- by its kind
-  pub pair-is : (n a k : ℕ) {b : Bool} → k ≡ getD bytes (3 * attributes + 2 * n + 1) 0 → b ≡ pairIndexed index n k a → isIndexed bytes index attributes n a ≡ b
-  unfolding isIndexed
-  pair-is n a k kind e = rw (← kind) (sym e)
-
+module _ (bytes index : List ℕ) (attributes n : ℕ) where
   -- ---- A node
 
-  abbrev pub RestOfNode : ℕ → ℕ → Type 0
-  RestOfNode n a =
-      (k : ℕ) × (a + k ≡ attributes) × (missingAt bytes index attributes k n a ≡ missingAt bytes index attributes attributes n 0)
+  -- From attribute a on `left` attributes of the node are yet to be looked at. k is the node's kind.
+  pub record RestOfNode (k a : ℕ) : Type 0 where
+    pub kind : k ≡ kindAt bytes attributes n
+    pub left : ℕ
+    pub to-end : a + left ≡ attributes
+    pub rest : missingAt bytes index attributes left n a ≡ missingAt bytes index attributes attributes n 0
 
-  pub node-done : (n a : ℕ) → attributes ≤ a → RestOfNode n a → none ≡ missingAt bytes index attributes attributes n 0
-  unfolding missingAt
-  node-done n a h (zero, e, same) = same
-  node-done n a h (suc k, e, same) = absurd (omega arith)
+  pub node-start : (k byte : ℕ) → k ≡ byte → byte ≡ kindAt bytes attributes n → RestOfNode k 0
+  node-start k byte wide kind = record { kind = wide ∙ kind; left = attributes; to-end = omega arith; rest = refl }
 
-  pub node-misses : (n a : ℕ) → a < attributes → RestOfNode n a → isIndexed bytes index attributes n a ≡ false
-      → some (n * 32 + a) ≡ missingAt bytes index attributes attributes n 0
-  unfolding missingAt
-  node-misses n a h (zero, e, same) f = absurd (omega arith)
-  node-misses n a h (suc k, e, same) f = rw (f, missingAt) at same
+  module _ (k a : ℕ) (h : RestOfNode k a) where
+    pub node-done : attributes ≤ a → none ≡ missingAt bytes index attributes attributes n 0
+    unfolding missingAt
+    node-done done = go (h .left) (h .to-end) (h .rest)
+      where
+        go : (l : ℕ) → a + l ≡ attributes → missingAt bytes index attributes l n a ≡ missingAt bytes index attributes attributes n 0
+            → none ≡ missingAt bytes index attributes attributes n 0
+        go zero e same = same
+        go (suc l) e same = absurd (omega arith)
 
-  pub node-has : (n a : ℕ) → a < attributes → RestOfNode n a → isIndexed bytes index attributes n a ≡ true → RestOfNode n (a + 1)
-  unfolding missingAt
-  node-has n a h (zero, e, same) f = absurd (omega arith)
-  node-has n a h (suc k, e, same) f = (k, omega arith, rw (add-one a) (rw (f, missingAt) at same))
+    module _ (more : a < attributes) (b : Bool) (test : b ≡ pairIndexed index n k a) where
+      -- by its kind
+      pair-is : isIndexed bytes index attributes n a ≡ b
+      unfolding isIndexed
+      pair-is = rw (← h .kind) (sym test)
 
-  -- ---- All nodes
+      pub node-misses : (place : ℕ) → not b ≡ true → place ≡ figurePlace n a → some place ≡ missingAt bytes index attributes attributes n 0
+      unfolding missingAt
+      node-misses place f here = ap some here ∙ go (h .left) (h .to-end) (h .rest)
+        where
+          go : (l : ℕ) → a + l ≡ attributes → missingAt bytes index attributes l n a ≡ missingAt bytes index attributes attributes n 0
+              → some (figurePlace n a) ≡ missingAt bytes index attributes attributes n 0
+          go zero e same = absurd (omega arith)
+          go (suc l) e same = rw (pair-is ∙ not-true b f, missingAt) at same
 
-  abbrev pub Rest : ℕ → ℕ → Type 0
-  Rest nodes n = (k : ℕ) × (n + k ≡ nodes) × (missingFrom bytes index attributes k n ≡ missingFrom bytes index attributes nodes 0)
+      pub node-has : not b ≡ false → RestOfNode k (a + 1)
+      unfolding missingAt
+      node-has f = go (h .left) (h .to-end) (h .rest)
+        where
+          go : (l : ℕ) → a + l ≡ attributes → missingAt bytes index attributes l n a ≡ missingAt bytes index attributes attributes n 0 → RestOfNode k (a + 1)
+          go zero e same = absurd (omega arith)
+          go (suc l) e same = record {
+            kind = h .kind;
+            left = l;
+            to-end = omega arith;
+            rest = rw (add-one a) (rw (pair-is ∙ not-false b f, missingAt) at same);
+          }
 
-  pub all-done : (nodes n : ℕ) → nodes ≤ n → Rest nodes n → none ≡ missingFrom bytes index attributes nodes 0
-  unfolding missingFrom
-  all-done nodes n h (zero, e, same) = same
-  all-done nodes n h (suc k, e, same) = absurd (omega arith)
+-- ---- All nodes
 
-  pub all-misses : (nodes n place : ℕ) → n < nodes → Rest nodes n → some place ≡ missingAt bytes index attributes attributes n 0
-      → some place ≡ missingFrom bytes index attributes nodes 0
-  unfolding missingFrom
-  all-misses nodes n place h (zero, e, same) f = absurd (omega arith)
-  all-misses nodes n place h (suc k, e, same) f = rw (← f, missingFrom) at same
+module _ (bytes index : List ℕ) (attributes nodes : ℕ) where
+  -- From node n on `left` nodes are yet to be looked at.
+  pub record Rest (n : ℕ) : Type 0 where
+    pub left : ℕ
+    pub to-end : n + left ≡ nodes
+    pub rest : missingFrom bytes index attributes left n ≡ missingFrom bytes index attributes nodes 0
 
-  pub all-has : (nodes n : ℕ) → n < nodes → Rest nodes n → none ≡ missingAt bytes index attributes attributes n 0 → Rest nodes (n + 1)
-  unfolding missingFrom
-  all-has nodes n h (zero, e, same) f = absurd (omega arith)
-  all-has nodes n h (suc k, e, same) f = (k, omega arith, rw (add-one n) (rw (← f, missingFrom) at same))
+  pub all-start : Rest 0
+  all-start = record { left = nodes; to-end = omega arith; rest = refl }
+
+  module _ (n : ℕ) (h : Rest n) where
+    pub all-done : nodes ≤ n → none ≡ missingFrom bytes index attributes nodes 0
+    unfolding missingFrom
+    all-done done = go (h .left) (h .to-end) (h .rest)
+      where
+        go : (l : ℕ) → n + l ≡ nodes → missingFrom bytes index attributes l n ≡ missingFrom bytes index attributes nodes 0
+            → none ≡ missingFrom bytes index attributes nodes 0
+        go zero e same = same
+        go (suc l) e same = absurd (omega arith)
+
+    module _ (more : n < nodes) (r : Gap) (found : gapOf r ≡ missingAt bytes index attributes attributes n 0) where
+      pub all-misses : (place : ℕ) → r ≡ At place → some place ≡ missingFrom bytes index attributes nodes 0
+      unfolding missingFrom
+      all-misses place told = go (h .left) (h .to-end) (h .rest)
+        where
+          go : (l : ℕ) → n + l ≡ nodes → missingFrom bytes index attributes l n ≡ missingFrom bytes index attributes nodes 0
+              → some place ≡ missingFrom bytes index attributes nodes 0
+          go zero e same = absurd (omega arith)
+          go (suc l) e same = rw (← (sym (ap gapOf told) ∙ found), missingFrom) at same
+
+      pub all-has : r ≡ Nowhere → Rest (n + 1)
+      unfolding missingFrom
+      all-has told = go (h .left) (h .to-end) (h .rest)
+        where
+          go : (l : ℕ) → n + l ≡ nodes → missingFrom bytes index attributes l n ≡ missingFrom bytes index attributes nodes 0 → Rest (n + 1)
+          go zero e same = absurd (omega arith)
+          go (suc l) e same = record { left = l; to-end = omega arith; rest = rw (add-one n) (rw (← (sym (ap gapOf told) ∙ found), missingFrom) at same) }
 
 -- ---- What the pass comes to
 
-module _ (p : Progress) (index : List ℕ) (o : Option ℕ) where
-  pub complete-accepts : none ≡ o → scanOf (Accepted (p .attributes) (p .nodes)) index ≡ scanned p index o
+module _ (p : Progress) (index : List ℕ) (o : Option ℕ) (r : Gap) (found : gapOf r ≡ o) where
+  pub complete-accepts : r ≡ Nowhere → scanOf (Accepted (p .attributes) (p .nodes)) (counted (p .attributes) (p .nodes) index) ≡ scanned p index o
   unfolding scanned
-  complete-accepts e = rw (← e)
+  complete-accepts told = rw (← found, told)
 
-  pub complete-refuses : (place : ℕ) → some place ≡ o → scanOf (Refused 8 place) index ≡ scanned p index o
+  pub complete-refuses : (place : ℕ) → r ≡ At place → scanOf (Refused 8 place) index ≡ scanned p index o
   unfolding scanned
-  complete-refuses place e = rw (← e)
+  complete-refuses place told = rw (← found, told)

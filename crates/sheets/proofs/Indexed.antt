@@ -1,4 +1,4 @@
--- What an indexed sheet's bytes and index say at a place, and how a store into the index changes that.
+-- What a sheet's bytes and index say at a place, and how a store into the index changes that.
 use mathlib.Core.Bool.{Bool, true, false, cond, _&&_}
 use mathlib.Core.Option.{Option, some}
 use mathlib.Core.List.{List, [], _∷_, _++_}
@@ -15,29 +15,16 @@ use borrow.Author.Tests.{eqb-true, eqb-false, eq-eqb, ne-eqb}
 use Rattle.saiga.specs.Values.{baseOf}
 use Rattle.saiga.specs.Types.{Attribute, attributeAt}
 use Rattle.saiga.specs.Sheet.{Sheet, nodeCount, attributeCount, figureFor, ruleFor, ruled, figured, definition}
-use Rattle.sheets.specs.Scan.{figurePlace, rulePlace, figureAt, pieceAt, indexed, clearRow, FigureFits, RuleFits, Indexed}
-use Rattle.values.specs.Layout.{attributesIn, kindsIn}
+use Rattle.sheets.specs.Scan.{figurePlace, rulesAt, rulePlace, attributesPlace, nodesPlace, figureAt, pieceAt, indexed, clearRow, counted, FigureFits, RuleFits, Described, Indexed}
+use Rattle.values.proofs.Declared.{past, attributeIn, attribute-at}
+use Rattle.values.specs.Layout.{resultAt, parameterAt, kindAt, attributesIn, kindsIn}
 
 -- ---- Attributes and kinds
-
-abbrev pub attributeIn : List ℕ → ℕ → Attribute
-attributeIn l a = record { result = baseOf (getD l (3 * a + 1) 0); parameter-type = baseOf (getD l (3 * a + 2) 0) }
-
--- an operand past the first command
-module _ (w i : ℕ) (n : ℕ) (l : List ℕ) where
-  past : getD (drop w l) (w * n + i) 0 ≡ getD l (w * suc n + i) 0
-  past = getD-drop w l (w * n + i) 0 ∙ ap (λ k. getD l k 0) (omega arith)
 
 pub attributes-snoc : (l : List ℕ) (n : ℕ) → attributesIn l (suc n) ≡ attributesIn l n ++ attributeIn l n ∷ []
 unfolding attributesIn
 attributes-snoc l zero = refl
 attributes-snoc l (suc n) = ap (λ r. attributeIn l 0 ∷ r) (attributes-snoc (drop 3 l) n ∙ simp past)
-
-pub attribute-at : (l : List ℕ) (n a : ℕ) → a < n → attributeAt (attributesIn l n) a ≡ attributeIn l a
-unfolding attributesIn
-attribute-at l zero a h = absurd (omega arith)
-attribute-at l (suc n) zero h = refl
-attribute-at l (suc n) (suc a) h = attribute-at (drop 3 l) n a (omega arith) ∙ simp past
 
 pub kinds-snoc : (l : List ℕ) (n : ℕ) → kindsIn l (suc n) ≡ kindsIn l n ++ getD l (2 * n + 1) 0 ∷ []
 unfolding kindsIn
@@ -110,26 +97,26 @@ module _ (index : List ℕ) (i j at : ℕ) (fits : i < length index) where
 
 -- ---- Look-ups
 
-module _ (bytes : List ℕ) (s : Sheet) (index : List ℕ) (h : Indexed bytes s index) where
+module _ (bytes : List ℕ) (s : Sheet) (index : List ℕ) (h : Described bytes s index) where
   pub attribute-by-index : (a : ℕ) → a < attributeCount s → attributeAt (s .attributes) a ≡ attributeIn bytes a
   attribute-by-index a q = rw (h .attributes-are) (attribute-at bytes (attributeCount s) a q)
 
-  pub kind-by-index : (n : ℕ) → n < nodeCount s → getD (s .kinds) n 0 ≡ getD bytes (3 * attributeCount s + 2 * n + 1) 0
+  pub kind-by-index : (n : ℕ) → n < nodeCount s → getD (s .kinds) n 0 ≡ kindAt bytes (attributeCount s) n
   kind-by-index n p =
       rw (h .kinds-are) (kind-at _ (nodeCount s) n p ∙ getD-drop (3 * attributeCount s) bytes (2 * n + 1) 0 ∙ ap (λ i. getD bytes i 0) (omega arith))
 
   pub definition-by-index : (n a : ℕ) → n < nodeCount s → a < attributeCount s → definition s n a
       ≡ figured (indexed (getD index (figurePlace n a) 0) (figureAt bytes a))
-      (ruled (indexed (getD index (rulePlace (getD bytes (3 * attributeCount s + 2 * n + 1) 0) a) 0) (pieceAt bytes)))
+      (ruled (indexed (getD index (rulePlace (kindAt bytes (attributeCount s) n) a) 0) (pieceAt bytes)))
   unfolding definition
   definition-by-index n a p q =
       rw (h .figures n a p q, h .rules _ a (h .kinds-bound n p) q, kind-by-index n p)
 
 -- ---- One more figure, one more rule
 
-module _ (bytes : List ℕ) (s : Sheet) (index : List ℕ) (h : Indexed bytes s index) (a at : ℕ) (q : a < attributeCount s) where
+module _ (bytes : List ℕ) (s : Sheet) (index : List ℕ) (h : Described bytes s index) (a at : ℕ) (q : a < attributeCount s) where
   pub figure-indexed : (n : ℕ) → n < nodeCount s → FigureFits bytes (nodeCount s) a at
-      → Indexed bytes
+      → Described bytes
       record {
         attributes = s .attributes;
         kinds = s .kinds;
@@ -168,7 +155,7 @@ module _ (bytes : List ℕ) (s : Sheet) (index : List ℕ) (h : Indexed bytes s 
       other k b = getD-set-other index (figurePlace n a) (rulePlace k b) (at + 1) 0 (omega arith)
 
   pub rule-indexed : (k : ℕ) → k ≤ 15 → RuleFits bytes at
-      → Indexed bytes
+      → Described bytes
       record {
         attributes = s .attributes;
         kinds = s .kinds;
@@ -197,7 +184,41 @@ module _ (bytes : List ℕ) (s : Sheet) (index : List ℕ) (h : Indexed bytes s 
       inside = omega arith
 
       test : (m b : ℕ) → b < attributeCount s → (eqb k m && eqb a b) ≡ eqb (rulePlace k a) (rulePlace m b)
-      test m b q′ = same-place 32768 k m a b (rulePlace k a) (rulePlace m b) (omega arith) (omega arith) (omega arith) (omega arith)
+      test m b q′ = same-place rulesAt k m a b (rulePlace k a) (rulePlace m b) (omega arith) (omega arith) (omega arith) (omega arith)
 
       other : (n b : ℕ) → n < nodeCount s → b < attributeCount s → getD (set index (rulePlace k a) (at + 1)) (figurePlace n b) 0 ≡ getD index (figurePlace n b) 0
       other n b p′ q′ = getD-set-other index (rulePlace k a) (figurePlace n b) (at + 1) 0 (omega arith)
+
+-- ---- The counts
+
+-- The counts change nothing else of the index.
+module _ (bytes : List ℕ) (s : Sheet) (index : List ℕ) (h : Described bytes s index) where
+  abbrev first : List ℕ
+  first = set index attributesPlace (attributeCount s)
+
+  first-size : length first ≡ length index
+  first-size = length-set index attributesPlace (attributeCount s)
+
+  other : (i : ℕ) → i < attributesPlace → getD (counted (attributeCount s) (nodeCount s) index) i 0 ≡ getD index i 0
+  other i before = getD-set-other first nodesPlace i (nodeCount s) 0 (omega arith) ∙ getD-set-other index attributesPlace i (attributeCount s) 0 (omega arith)
+
+  pub counted-indexed : Indexed bytes s (counted (attributeCount s) (nodeCount s) index)
+  counted-indexed = record {
+    described = record {
+      size = length-set first nodesPlace (nodeCount s) ∙ first-size ∙ h .size;
+      short = h .short;
+      attributes-are = h .attributes-are;
+      kinds-are = h .kinds-are;
+      room = h .room;
+      attributes-bound = h .attributes-bound;
+      nodes-bound = h .nodes-bound;
+      types-bound = h .types-bound;
+      kinds-bound = h .kinds-bound;
+      figures = λ n a p q. rw (other (figurePlace n a) (omega arith)) (h .figures n a p q);
+      figure-fits = λ n a at p q. rw (other (figurePlace n a) (omega arith)) (h .figure-fits n a at p q);
+      rules = λ k a p q. rw (other (rulePlace k a) (omega arith)) (h .rules k a p q);
+      rule-fits = λ k a at p q. rw (other (rulePlace k a) (omega arith)) (h .rule-fits k a at p q);
+    };
+    attributes-in = getD-set-other first nodesPlace attributesPlace (nodeCount s) 0 (omega arith) ∙ getD-set-same index attributesPlace (attributeCount s) 0 (omega (arith, h .size));
+    nodes-in = getD-set-same first nodesPlace (nodeCount s) 0 (omega (arith, h .size, first-size));
+  }

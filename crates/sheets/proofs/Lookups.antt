@@ -9,41 +9,52 @@ use lib.ListN.{length, take, drop, getD}
 use Rattle.saiga.specs.Values.{baseOf, ofBytes, isWord, ofWord}
 use Rattle.saiga.specs.declared.Value.{Value}
 use Rattle.saiga.proofs.FourBytes.{word-more}
-use Rattle.sheets.specs.Scan.{figureAt, pieceAt, indexed, IndexedPair, IndexedRule, ruleNumber}
+use Rattle.sheets.specs.Scan.{figurePlace, rulePlace, attributesPlace, figureAt, pieceAt, indexed, IndexedPair, IndexedRule, ruleNumber}
 use Rattle.sheets.proofs.Indexed.{kind-by-index}
+use Rattle.values.specs.Layout.{resultAt, kindAt}
 
 -- ---- A figure
 
-pub no-figure : {A : Type 0} (f : ℕ → A) (place : ℕ) → place ≡ 0 → none ≡ indexed place f
-unfolding indexed
-no-figure f place e = rw e
-
-pub record FigureHere (bytes : List ℕ) (a place : ℕ) : Type 0 where
-  pub room : place + 7 ≤ length bytes
+record FigureHere (bytes : List ℕ) (a number : ℕ) : Type 0 where
+  pub room : number + 7 ≤ length bytes
   pub short : length bytes ≤ 65536
-  pub word : isWord 1024 (baseOf (getD bytes (3 * a + 1) 0)) (ofBytes (take 4 (drop (place + 3) bytes))) ≡ true
-  pub value : some (ofWord (baseOf (getD bytes (3 * a + 1) 0)) (ofBytes (take 4 (drop (place + 3) bytes)))) ≡ indexed place (figureAt bytes a)
+  pub word : isWord 1024 (baseOf (resultAt bytes a)) (ofBytes (take 4 (drop (number + 3) bytes))) ≡ true
+  pub value : some (ofWord (baseOf (resultAt bytes a)) (ofBytes (take 4 (drop (number + 3) bytes)))) ≡ indexed number (figureAt bytes a)
 
-pub figure-here : (bytes index : List ℕ) (n a : ℕ) → IndexedPair bytes index n a → (getD index (n * 32 + a) 0 ≡ 0 → ⊥)
-    → FigureHere bytes a (getD index (n * 32 + a) 0)
-unfolding indexed figureAt
-figure-here bytes index n a h some-place = go (getD index (n * 32 + a) 0) refl some-place
-  where
-    go : (place : ℕ) → getD index (n * 32 + a) 0 ≡ place → (place ≡ 0 → ⊥) → FigureHere bytes a place
-    go zero e some-at = absurd (some-at refl)
-    go (suc at) e some-at =
-        let (fits, word) = h .known .figure-fits n a at (h .node) (h .attribute) e in
-        let same : suc at + 3 ≡ at + 4 = omega arith in
-        record {
-          room = omega arith;
-          short = h .known .short;
-          word = rw same (word-more _ _ (h .known .nodes-bound) word);
-          value = rw same;
-        }
+module _ (bytes index : List ℕ) (n a place : ℕ) (here : place ≡ figurePlace n a) where
+  pub no-figure : {A : Type 0} (f : ℕ → A) → getD index place 0 ≡ 0 → none ≡ indexed (getD index (figurePlace n a) 0) f
+  unfolding indexed
+  no-figure f e = rw (← here, e)
 
-pub figure-value : (bytes : List ℕ) (a place : ℕ) → FigureHere bytes a place → (w : ℕ) (v : Value) → w ≡ ofBytes (take 4 (drop (place + 3) bytes))
-    → v ≡ ofWord (baseOf (getD bytes (3 * a + 1) 0)) w → some v ≡ indexed place (figureAt bytes a)
-figure-value bytes a place h w v word value = ap some (value ∙ ap (λ x. ofWord (baseOf (getD bytes (3 * a + 1) 0)) x) word) ∙ h .value
+  module _ (h : IndexedPair bytes index n a) (some-at : getD index place 0 ≡ 0 → ⊥) where
+    figure-here : FigureHere bytes a (getD index place 0)
+    unfolding indexed figureAt
+    figure-here = go (getD index place 0) (ap (λ i. getD index i 0) (sym here)) some-at
+      where
+        go : (number : ℕ) → getD index (figurePlace n a) 0 ≡ number → (number ≡ 0 → ⊥) → FigureHere bytes a number
+        go zero e some-at = absurd (some-at refl)
+        go (suc at) e some-at =
+            let (fits, word) = h .known .described .figure-fits n a at (h .node) (h .attribute) e in
+            let same : suc at + 3 ≡ at + 4 = omega arith in
+            record {
+              room = omega arith;
+              short = h .known .described .short;
+              word = rw same (word-more _ _ (h .known .described .nodes-bound) word);
+              value = rw same;
+            }
+
+    pub figure-fits : getD index place 0 + 3 < 18446744073709551616
+    figure-fits = omega (arith, figure-here)
+
+    pub figure-room : getD index place 0 + 3 + 4 ≤ length bytes
+    figure-room = omega (arith, figure-here)
+
+    module _ (code w : ℕ) (typed : code ≡ resultAt bytes a) (word : w ≡ ofBytes (take 4 (drop (getD index place 0 + 3) bytes))) where
+      pub figure-word : isWord 1024 (baseOf code) w ≡ true
+      figure-word = rw (typed, word) (figure-here .word)
+
+      pub figure-value : (v : Value) → v ≡ ofWord (baseOf code) w → some v ≡ indexed (getD index (figurePlace n a) 0) (figureAt bytes a)
+      figure-value v value = rw (← here) (ap some (value ∙ rw (typed, word)) ∙ figure-here .value)
 
 -- ---- A rule
 
@@ -53,40 +64,40 @@ pub record RuleHere (bytes : List ℕ) (place : ℕ) : Type 0 where
   pub room : place + 4 + ofBytes (take 2 (drop (place + 2) bytes)) ≤ length bytes
   pub piece : take (ofBytes (take 2 (drop (place + 2) bytes))) (drop (place + 4) bytes) ≡ pieceAt bytes (place - 1)
 
-module _ (bytes index : List ℕ) (attributes n a : ℕ) (h : IndexedRule bytes index attributes n a) (k : ℕ) (kind : k ≡ getD bytes (3 * attributes + 2 * n + 1) 0) where
-  kind-bound : k ≤ 15
+module _ (bytes index : List ℕ) (n a : ℕ) (h : IndexedRule bytes index n a) where
+  kind-bound : kindAt bytes (getD index attributesPlace 0) n ≤ 15
   kind-bound =
       let i = h .pair .known in
-      rw (kind, h .all, ← kind-by-index bytes (h .pair .sheet) index i n (h .pair .node)) (i .kinds-bound n (h .pair .node))
+      rw (i .attributes-in, ← kind-by-index bytes (h .pair .sheet) index (i .described) n (h .pair .node)) (i .described .kinds-bound n (h .pair .node))
 
-  pub rule-place : 32768 + k * 32 + a < length index
-  rule-place = omega (arith, kind-bound, h .pair .known .size, h .pair .known .attributes-bound, h .pair .attribute)
+  module _ (k byte : ℕ) (wide : k ≡ byte) (kind : byte ≡ kindAt bytes (getD index attributesPlace 0) n) where
+    pub kind-small : k ≤ 15
+    kind-small = rw (wide, kind) kind-bound
 
-  pub number-is : getD index (32768 + k * 32 + a) 0 ≡ ruleNumber bytes index attributes n a
-  number-is = rw kind
+    pub rule-within : (place : ℕ) → place ≡ rulePlace k a → place < length index
+    rule-within place here =
+        omega (arith, kind-small, h .pair .attribute, h .pair .known .described .attributes-bound, h .pair .known .described .size)
 
-  pub rule-here : RuleHere bytes (getD index (32768 + k * 32 + a) 0)
+  pub rule-here : (number : ℕ) → number ≡ ruleNumber bytes index n a → RuleHere bytes number
   unfolding pieceAt
-  rule-here = go (getD index (32768 + k * 32 + a) 0) refl
+  rule-here number is = go number (sym is)
     where
-      go : (place : ℕ) → getD index (32768 + k * 32 + a) 0 ≡ place → RuleHere bytes place
-      go zero e = absurd (h .ruled (sym number-is ∙ e))
+      go : (number : ℕ) → ruleNumber bytes index n a ≡ number → RuleHere bytes number
+      go zero e = absurd (h .ruled e)
       go (suc at) e =
-          let (fits, few) = h .pair .known .rule-fits k a at kind-bound (h .pair .attribute) e in
+          let (fits, few) = h .pair .known .described .rule-fits _ a at kind-bound (h .pair .attribute) e in
           let two : suc at + 2 ≡ at + 3 = omega arith in
           let four : suc at + 4 ≡ at + 5 = omega arith in
           let one : suc at - 1 ≡ at = omega arith in
           record {
             starts = omega arith;
-            short = h .pair .known .short;
+            short = h .pair .known .described .short;
             room = rw (two, four) fits;
             piece = rw (two, four, one);
           }
 
-  pub rule-piece : (size : ℕ) → size ≡ ofBytes (take 2 (drop (getD index (32768 + k * 32 + a) 0 + 2) bytes))
-      → take (getD index (32768 + k * 32 + a) 0 + 4 + size - (getD index (32768 + k * 32 + a) 0 + 4)) (drop (getD index (32768 + k * 32 + a) 0 + 4) bytes)
-      ≡ pieceAt bytes (ruleNumber bytes index attributes n a - 1)
-  rule-piece size e =
-      let place = getD index (32768 + k * 32 + a) 0 in
-      let width : place + 4 + size - (place + 4) ≡ size = omega arith in
-      rw (width, e) (rule-here .piece ∙ ap (λ m. pieceAt bytes (m - 1)) number-is)
+  pub rule-piece : (number size : ℕ) → number ≡ ruleNumber bytes index n a → size ≡ ofBytes (take 2 (drop (number + 2) bytes))
+      → take (number + 4 + size - (number + 4)) (drop (number + 4) bytes) ≡ pieceAt bytes (ruleNumber bytes index n a - 1)
+  rule-piece number size is e =
+      let width : number + 4 + size - (number + 4) ≡ size = omega arith in
+      rw (width, e, ← is) (rule-here number is .piece)

@@ -1,8 +1,8 @@
 -- The pass over the commands, one after the other: what is left of it from here on is all of it, and the index describes the sheet so far.
 use mathlib.Core.Bool.{Bool, true, false, cond, _&&_, and-eq-true-iff}
 use mathlib.Core.List.{List}
-use mathlib.Core.Path.{_≡_, refl, ap, _∙_}
-use Prim.Native.Nat.{ℕ, zero, suc, _+_, _≤_, _<_}
+use mathlib.Core.Path.{_≡_, refl, sym, ap, _∙_}
+use Prim.Native.Nat.{ℕ, zero, suc, _+_, _-_, _≤_, _<_}
 use native.Mathlib.Omega.{arith}
 use lib.Dec.{leb, ltb, eqb}
 use lib.ListN.{length, getD}
@@ -12,8 +12,9 @@ use Rattle.saiga.specs.Sheet.{Sheet, emptySheet, nodeCount, attributeCount, Rea
 use Rattle.sheets.specs.declared.Progress.{Progress}
 use Rattle.sheets.specs.declared.Read.{Read}
 use Rattle.sheets.specs.declared.Read.the-variants.{Stops, Ends, GoesOn}
+use Rattle.sheets.specs.declared.SheetCheck.{SheetCheck}
 use Rattle.sheets.specs.declared.SheetCheck.the-variants.{Refused}
-use Rattle.sheets.specs.Scan.{indexSize, Scanned, stops_at-offset_, ends, goes-on, demand, scanAttribute, clearRow, scanNode, scanFigure, demandRule, scanRule, scanEnd, scanAt, scanCommand, missingFrom, Scan, scanned, scanFrom, start, Reading, ReadAs, Declared, scanOf}
+use Rattle.sheets.specs.Scan.{rulesAt, rulePlaces, indexSize, Scanned, stops_at-offset_, ends, goes-on, demand, scanAttribute, clearRow, scanNode, scanFigure, demandRule, scanRule, scanEnd, scanAt, scanCommand, missingFrom, Scan, scanned, scanFrom, start, Reading, ReadAs, Declared, scanOf}
 use Rattle.sheets.proofs.Indexed.{kind-by-index}
 use Rattle.sheets.proofs.Scan.{progress, SoFar, Agrees, stop, end, next, next-agrees, start-so-far}
 
@@ -78,7 +79,7 @@ pub record Reached (bytes first : List ℕ) (p : Progress) (index : List ℕ) : 
   pub enough : length bytes < p .at + fuel
   pub rest : scanFrom fuel bytes p index ≡ scanFrom (suc (length bytes)) bytes start first
 
-pub reached-start : (bytes first cleared : List ℕ) → length bytes ≤ 65536 → length first ≡ indexSize → cleared ≡ clearRow 512 32768 first
+pub reached-start : (bytes first cleared : List ℕ) → length bytes ≤ 65536 → length first ≡ indexSize → cleared ≡ clearRow rulePlaces rulesAt first
     → Reached bytes cleared start cleared
 reached-start bytes first cleared short size e = record {
   sheet = emptySheet;
@@ -92,7 +93,7 @@ reached-start bytes first cleared short size e = record {
 }
 
 module _ (bytes first : List ℕ) (p : Progress) (index : List ℕ) (h : Reached bytes first p index) where
-  pub reached-size : length index ≡ indexSize
+  reached-size : length index ≡ indexSize
   reached-size = h .so-far .known .size
 
   attributes-are : p .attributes ≡ attributeCount (h .sheet)
@@ -151,37 +152,56 @@ module _ (bytes first : List ℕ) (p : Progress) (index : List ℕ) (h : Reached
     goes-on-as : (p′ : Progress) → r ≡ GoesOn p′ → goes-on p′ after ≡ scanCommand bytes p index
     goes-on-as p′ told = rw told at (s .read)
 
-    pub kept-at-stop : (number offset : ℕ) → r ≡ Stops number offset → after ≡ index
+    kept-at-stop : (number offset : ℕ) → r ≡ Stops number offset → after ≡ index
     kept-at-stop number offset told = s .index-is ∙ rw (← stops-as number offset told)
 
-    pub kept-at-end : r ≡ Ends → after ≡ index
+    kept-at-end : r ≡ Ends → after ≡ index
     kept-at-end told = s .index-is ∙ rw (← ends-as told)
 
-    pub offset-small : (number offset : ℕ) → r ≡ Stops number offset → offset ≤ 1
-    offset-small number offset told = rw (← stops-as number offset told) at (next-moves bytes p index)
+    pub size-at-stop : (whole : List ℕ) (number offset : ℕ) → r ≡ Stops number offset → length whole ≡ indexSize → length after ≡ length whole
+    size-at-stop whole number offset told size = ap length (kept-at-stop number offset told) ∙ reached-size ∙ sym size
 
-    pub pass-stops : (number offset : ℕ) → r ≡ Stops number offset
-        → scanOf (Refused number (p .at + offset)) after ≡ scanFrom (suc (length bytes)) bytes start first
+    size-at-end : r ≡ Ends → length after ≡ indexSize
+    size-at-end told = ap length (kept-at-end told) ∙ reached-size
+
+    pub size-completed : (whole last : List ℕ) → r ≡ Ends → length last ≡ length after → length whole ≡ indexSize → length last ≡ length whole
+    size-completed whole last told kept size = kept ∙ size-at-end told ∙ sym size
+
+    pub place-fits : (number offset : ℕ) → r ≡ Stops number offset → p .at + offset < 18446744073709551616
+    place-fits number offset told =
+        let small : offset ≤ 1 = rw (← stops-as number offset told) at (next-moves bytes p index) in
+        omega (arith, reached-reading .short, reached-reading .within)
+
+    pub pass-stops : (whole : List ℕ) (number offset : ℕ) → r ≡ Stops number offset → first ≡ clearRow rulePlaces rulesAt whole
+        → scanOf (Refused number (p .at + offset)) after ≡ scanFrom (suc (length bytes)) bytes start (clearRow rulePlaces rulesAt whole)
     unfolding scanFrom
-    pass-stops number offset told =
-        rw (kept-at-stop number offset told)
+    pass-stops whole number offset told cleared =
+        rw (kept-at-stop number offset told, ← cleared)
         (left-over (scanOf (Refused number (p .at + offset)) index) λ k same. rw (← stops-as number offset told, scanFrom) at same)
 
-    pub pass-ends : r ≡ Ends → scanned p after (missingFrom bytes after (p .attributes) (p .nodes) 0) ≡ scanFrom (suc (length bytes)) bytes start first
+    completed : r ≡ Ends → scanned p after (missingFrom bytes after (p .attributes) (p .nodes) 0) ≡ scanFrom (suc (length bytes)) bytes start first
     unfolding scanFrom
-    pass-ends told =
+    completed told =
         rw (kept-at-end told)
         (left-over (scanned p index (missingFrom bytes index (p .attributes) (p .nodes) 0)) λ k same. rw (← ends-as told, scanFrom) at same)
 
-    pub all-declared : r ≡ Ends → (n : ℕ) → n < p .nodes → Declared bytes after (p .attributes) n
-    all-declared told = rw (kept-at-end told) reached-declared
+    pub pass-ends : (whole last : List ℕ) (check : SheetCheck) → r ≡ Ends → first ≡ clearRow rulePlaces rulesAt whole
+        → scanOf check last ≡ scanned p after (missingFrom bytes after (p .attributes) (p .nodes) 0)
+        → scanOf check last ≡ scanFrom (suc (length bytes)) bytes start (clearRow rulePlaces rulesAt whole)
+    pass-ends whole last check told cleared e = rw (← cleared) (e ∙ completed told)
+
+    pub read-all : r ≡ Ends → ((n : ℕ) → n < p .nodes → Declared bytes after (p .attributes) n) × (Reading bytes p × (length after ≡ indexSize))
+    read-all told = (rw (kept-at-end told) reached-declared, (reached-reading, size-at-end told))
 
     module _ (p′ : Progress) (told : r ≡ GoesOn p′) where
       moved : Moves bytes p (goes-on p′ after)
       moved = rw (← goes-on-as p′ told) at (next-moves bytes p index)
 
-      pub further : p .at < p′ .at
+      further : p .at < p′ .at
       further = moved .0
+
+      pub less-left : length bytes - p′ .at < length bytes - p .at
+      less-left = omega (arith, further, moved .1)
 
       carried : (width part : ℕ) (s : Sheet) {q : Progress} {after′ : List ℕ} → q ≡ progress s (p .at + width) part → SoFar bytes s (p .at + width) part after′
           → goes-on p′ after ≡ goes-on q after′ → (s : Sheet) × (p′ ≡ progress s (p′ .at) (p′ .part)) × SoFar bytes s (p′ .at) (p′ .part) after

@@ -21,9 +21,9 @@ use Rattle.saiga.proofs.Inference.{cond-passes}
 use Rattle.sheets.specs.declared.Progress.{Progress}
 use Rattle.sheets.specs.declared.SheetCheck.{SheetCheck}
 use Rattle.sheets.specs.declared.SheetCheck.the-variants.{Refused, Accepted}
-use Rattle.sheets.specs.Scan.{figurePlace, rulePlace, indexSize, figureAt, pieceAt, indexed, Scanned, stops_at-offset_, ends, goes-on, demand, scanAttribute, clearRow, scanNode, scanFigure, demandRule, scanRule, scanEnd, scanAt, scanCommand, pairIndexed, isIndexed, missingAt, missingFrom, Scan, scanned, scanFrom, start, scanSheet, checkOf, Indexed, scanOf, Checks}
-use Rattle.values.specs.Layout.{attributesIn, kindsIn}
-use Rattle.sheets.proofs.Indexed.{attributes-snoc, kinds-snoc, clear-length, clear-other, clear-same, attribute-by-index, definition-by-index, figure-indexed, rule-indexed}
+use Rattle.sheets.specs.Scan.{figurePlace, rulesAt, rulePlaces, rulePlace, indexSize, figureAt, pieceAt, indexed, Scanned, stops_at-offset_, ends, goes-on, demand, scanAttribute, clearRow, scanNode, scanFigure, demandRule, scanRule, scanEnd, scanAt, scanCommand, pairIndexed, isIndexed, missingAt, missingFrom, Scan, scanned, scanFrom, start, scanSheet, checkOf, Described, Indexed, scanOf, Checks}
+use Rattle.values.specs.Layout.{resultAt, parameterAt, kindAt, attributesIn, kindsIn}
+use Rattle.sheets.proofs.Indexed.{attributes-snoc, kinds-snoc, clear-length, clear-other, clear-same, attribute-by-index, definition-by-index, figure-indexed, rule-indexed, counted-indexed}
 
 -- ---- The pass for missing pairs
 
@@ -32,12 +32,12 @@ unfolding indexed
 is-indexed zero f = refl
 is-indexed (suc at) f = sym (eqb·suc-zero at)
 
-module _ (bytes : List ℕ) (s : Sheet) (index : List ℕ) (h : Indexed bytes s index) where
+module _ (bytes : List ℕ) (s : Sheet) (index : List ℕ) (h : Described bytes s index) where
   defined-is : (n a : ℕ) → n < nodeCount s → a < attributeCount s → isDefined (definition s n a) ≡ isIndexed bytes index (attributeCount s) n a
   unfolding pairIndexed isIndexed isDefined figured ruled indexed
   defined-is n a p q =
       rw (definition-by-index bytes s index h n a p q)
-      (go (getD index (figurePlace n a) 0) (getD index (rulePlace (getD bytes (3 * attributeCount s + 2 * n + 1) 0) a) 0))
+      (go (getD index (figurePlace n a) 0) (getD index (rulePlace (kindAt bytes (attributeCount s) n) a) 0))
     where
       go : (x y : ℕ) → isDefined (figured (indexed x (figureAt bytes a)) (ruled (indexed y (pieceAt bytes)))) ≡ (not (eqb x 0) || not (eqb y 0))
       go zero zero = refl
@@ -50,7 +50,7 @@ module _ (bytes : List ℕ) (s : Sheet) (index : List ℕ) (h : Indexed bytes s 
   gap-at zero n a p q = refl
   gap-at (suc k) n a p q =
       rw (defined-is n a p (omega arith), gapAt)
-      (ap {B = Option ℕ} (λ o. elim (isIndexed bytes index (attributeCount s) n a) [ true ↦ o | false ↦ some (n * 32 + a) ]) (gap-at k n (suc a) p (omega arith)))
+      (ap {B = Option ℕ} (λ o. elim (isIndexed bytes index (attributeCount s) n a) [ true ↦ o | false ↦ some (figurePlace n a) ]) (gap-at k n (suc a) p (omega arith)))
 
   gap-from : (k n : ℕ) → n + k ≤ nodeCount s → gapFrom s k n ≡ missingFrom bytes index (attributeCount s) k n
   unfolding gapFrom missingFrom
@@ -74,7 +74,7 @@ record Declaring (bytes : List ℕ) (s : Sheet) (at part : ℕ) (index : List �
   within : at ≤ length bytes
   attributes-bound : attributeCount s ≤ 32
   nodes-bound : nodeCount s ≤ 1024
-  types-bound : (a : ℕ) → a < attributeCount s → (getD bytes (3 * a + 1) 0 < 4) × (getD bytes (3 * a + 2) 0 < 4)
+  types-bound : (a : ℕ) → a < attributeCount s → (resultAt bytes a < 4) × (parameterAt bytes a < 4)
   kinds-bound : (n : ℕ) → n < nodeCount s → getD (s .kinds) n 0 ≤ 15
   no-nodes : part ≤ 0 → s .kinds ≡ []
   no-figures : s .figures ≡ []
@@ -83,7 +83,7 @@ record Declaring (bytes : List ℕ) (s : Sheet) (at part : ℕ) (index : List �
   clear-rules : (k a : ℕ) → k ≤ 15 → a < 32 → getD index (rulePlace k a) 0 ≡ 0
 
 pub record SoFar (bytes : List ℕ) (s : Sheet) (at part : ℕ) (index : List ℕ) : Type 0 where
-  pub known : Indexed bytes s index
+  pub known : Described bytes s index
   declaring : part ≤ 1 → Declaring bytes s at part index
 
 declared : {bytes : List ℕ} {s : Sheet} {at part : ℕ} {index : List ℕ} → Declaring bytes s at part index → SoFar bytes s at part index
@@ -329,7 +329,7 @@ commands-agree bytes zero s at part index h = refl
 commands-agree bytes (suc k) s at part index h = go (commands-agree bytes k) _ _ refl refl (next-agrees bytes s at part index h)
   where
     finish : (o : Option ℕ) → Outcome bytes (complete s o) (scanned (progress s at part) index o)
-    finish none = (refl, h .known)
+    finish none = (refl, counted-indexed bytes s index (h .known))
     finish (some place) = refl
 
     go : ((s′ : Sheet) (at′ part′ : ℕ) (index′ : List ℕ) → SoFar bytes s′ at′ part′ index′
@@ -342,10 +342,10 @@ commands-agree bytes (suc k) s at part index h = go (commands-agree bytes k) _ _
         (finish (missingFrom bytes index (attributeCount s) (nodeCount s) 0))
     go ih r t e f (next same so-far) = rw (e, readCommands, f, scanFrom, drop-drop, same) (ih _ _ _ _ so-far)
 
-pub start-so-far : (bytes index : List ℕ) → length bytes ≤ 65536 → length index ≡ indexSize → SoFar bytes emptySheet 0 0 (clearRow 512 32768 index)
+pub start-so-far : (bytes index : List ℕ) → length bytes ≤ 65536 → length index ≡ indexSize → SoFar bytes emptySheet 0 0 (clearRow rulePlaces rulesAt index)
 unfolding attributesIn kindsIn
 start-so-far bytes index short size = declared record {
-  size = clear-length 512 32768 index ∙ size;
+  size = clear-length rulePlaces rulesAt index ∙ size;
   short = short;
   attributes-are = refl;
   kinds-are = refl;
@@ -359,7 +359,7 @@ start-so-far bytes index short size = declared record {
   no-figures = refl;
   no-rules = refl;
   clear-rows = λ n p. absurd (omega arith);
-  clear-rules = λ k a p q. clear-same 512 32768 (rulePlace k a) index (omega arith) (omega arith) (omega arith);
+  clear-rules = λ k a p q. clear-same rulePlaces rulesAt (rulePlace k a) index (omega arith) (omega arith) (omega arith);
 }
 
 sheet-agrees : (bytes index : List ℕ) → length index ≡ indexSize → Outcome bytes (checkSheet bytes) (scanSheet bytes index)
@@ -368,10 +368,10 @@ sheet-agrees bytes index size = go (leb (length bytes) 65536) refl
   where
     go : (b : Bool) → leb (length bytes) 65536 ≡ b
         → Outcome bytes (cond b (readCommands (suc (length bytes)) emptySheet 0 0 bytes) (refused 1 at-place 0))
-        (cond b (scanFrom (suc (length bytes)) bytes start (clearRow 512 32768 index)) record { check = Refused 1 0; index = index })
+        (cond b (scanFrom (suc (length bytes)) bytes start (clearRow rulePlaces rulesAt index)) record { check = Refused 1 0; index = index })
     go false e = refl
     go true e =
-        commands-agree bytes (suc (length bytes)) emptySheet 0 0 (clearRow 512 32768 index)
+        commands-agree bytes (suc (length bytes)) emptySheet 0 0 (clearRow rulePlaces rulesAt index)
         (start-so-far bytes index (leb-true (length bytes) 65536 e) size)
 
 pub scan-checks : (bytes index : List ℕ) → length index ≡ indexSize → scanSheet bytes index .check ≡ checkOf (checkSheet bytes)
@@ -398,12 +398,12 @@ module _ (bytes index : List ℕ) where
       let e = long-refused bytes h in
       record { size = size; checked = rw e; indexes = λ s f. absurd (let z : _≡_ {A = ℕ} 0 1 = cc in omega arith) }
 
-  pass-is : length bytes ≤ 65536 → scanSheet bytes index ≡ scanFrom (suc (length bytes)) bytes start (clearRow 512 32768 index)
+  pass-is : length bytes ≤ 65536 → scanSheet bytes index ≡ scanFrom (suc (length bytes)) bytes start (clearRow rulePlaces rulesAt index)
   unfolding scanSheet
   pass-is h = rw (le-leb _ _ h)
 
   pub short-checks : (r : SheetCheck) (after : List ℕ) → length index ≡ indexSize → length after ≡ indexSize → length bytes ≤ 65536
-      → scanOf r after ≡ scanFrom (suc (length bytes)) bytes start (clearRow 512 32768 index) → Checks bytes r after
+      → scanOf r after ≡ scanFrom (suc (length bytes)) bytes start (clearRow rulePlaces rulesAt index) → Checks bytes r after
   short-checks r after size left h e =
       let same = e ∙ sym (pass-is h) in
       record {

@@ -7,38 +7,51 @@ use mathlib.Core.Path.{_≡_}
 use Prim.Native.Nat.{ℕ, zero, suc, _+_, _*_, _≤_, _<_}
 use lib.Dec.{leb, ltb, eqb}
 use lib.ListN.{length, take, drop, getD, set}
+use Rattle.saiga.specs.Limits.{sheetLimit, attributeLimit, nodeLimit, lastKind, expressionLimit}
 use Rattle.saiga.specs.Values.{baseOf, base, ofBytes, isWord, ofWord}
 use Rattle.saiga.specs.declared.Value.{Value}
 use Rattle.saiga.specs.Expressions.{Whole, no-expression, expression, readWhole}
 use Rattle.saiga.specs.Types.{hasType}
-use Rattle.saiga.specs.Sheet.{Sheet, nodeCount, attributeCount, figureFor, ruleFor, Command, attribute-command, node-command, figure-command, rule-command, end-command, no-command, commandOf, Checked, refused_at-place_, accepted, checkSheet}
+use Rattle.saiga.specs.Sheet.{Sheet, nodeCount, attributeCount, figureFor, ruleFor, attribute-part, node-part, figure-part, rule-part, Command, attribute-command, node-command, figure-command, rule-command, end-command, no-command, commandOf, Checked, refused_at-place_, accepted, checkSheet}
 use Rattle.sheets.specs.declared.Progress.{Progress}
 use Rattle.sheets.specs.declared.Read.{Read}
 use Rattle.sheets.specs.declared.Read.the-variants.{Stops, Ends, GoesOn}
 use Rattle.sheets.specs.declared.Gap.{Gap}
 use Rattle.sheets.specs.declared.Gap.the-variants.{At, Nowhere}
-use Rattle.sheets.specs.declared.FoundFigure.{FoundFigure}
-use Rattle.sheets.specs.declared.FoundFigure.the-variants.{Of, NoFigure}
+use Rattle.sheets.specs.declared.lookup.FoundFigure.{FoundFigure}
+use Rattle.sheets.specs.declared.lookup.FoundFigure.the-variants.{Of, NoFigure}
 use Rattle.sheets.specs.declared.SheetCheck.{SheetCheck}
 use Rattle.sheets.specs.declared.SheetCheck.the-variants.{Refused, Accepted}
-use Rattle.values.specs.Layout.{attributesIn, kindsIn}
+use Rattle.values.specs.Layout.{resultAt, parameterAt, kindAt, attributesIn, kindsIn}
 
 -- ---- What stands where
 
 -- The index has a number for each pair of a node and an attribute and for each pair of a kind and an attribute: the offset of the
--- command, and one; 0 where there is none.
+-- command, and one; 0 where there is none. Behind these an accepted sheet's has the numbers of its attributes and nodes.
 abbrev pub figurePlace : ℕ → ℕ → ℕ
-figurePlace n a = n * 32 + a
+figurePlace n a = n * attributeLimit + a
+
+abbrev pub rulesAt : ℕ
+rulesAt = 32768
+
+abbrev pub rulePlaces : ℕ
+rulePlaces = 512
 
 abbrev pub rulePlace : ℕ → ℕ → ℕ
-rulePlace k a = 32768 + k * 32 + a
+rulePlace k a = rulesAt + k * attributeLimit + a
+
+abbrev pub attributesPlace : ℕ
+attributesPlace = 33280
+
+abbrev pub nodesPlace : ℕ
+nodesPlace = 33281
 
 abbrev pub indexSize : ℕ
-indexSize = 33280
+indexSize = 33282
 
 -- the figure of the command at an offset, by the result type of its attribute, and the piece of the rule at an offset
 unfoldable pub figureAt : List ℕ → ℕ → ℕ → Value
-figureAt bytes a at = ofWord (baseOf (getD bytes (3 * a + 1) 0)) (ofBytes (take 4 (drop (at + 4) bytes)))
+figureAt bytes a at = ofWord (baseOf (resultAt bytes a)) (ofBytes (take 4 (drop (at + 4) bytes)))
 
 unfoldable pub pieceAt : List ℕ → ℕ → List ℕ
 pieceAt bytes at = take (ofBytes (take 2 (drop (at + 3) bytes))) (drop (at + 5) bytes)
@@ -63,10 +76,10 @@ demand false number r = stops number at-offset 0
 unfoldable pub scanAttribute : List ℕ → Progress → List ℕ → Scanned
 scanAttribute bytes p index =
     let at = p .at in
-    demand (leb (p .part) 0 && leb (at + 3) (length bytes)) 2
-    (demand (ltb (p .attributes) 32) 3
+    demand (leb (p .part) attribute-part && leb (at + 3) (length bytes)) 2
+    (demand (ltb (p .attributes) attributeLimit) 3
     (demand (ltb (getD bytes (at + 1) 0) 4 && ltb (getD bytes (at + 2) 0) 4) 4
-    (goes-on record { at = at + 3; part = 0; attributes = p .attributes + 1; nodes = p .nodes } index)))
+    (goes-on record { at = at + 3; part = attribute-part; attributes = p .attributes + 1; nodes = p .nodes } index)))
 
 -- A node's row of the index is cleared when the node is declared.
 unfoldable pub clearRow : ℕ → ℕ → List ℕ → List ℕ
@@ -76,10 +89,10 @@ clearRow (suc k) i index = clearRow k (suc i) (set index i 0)
 unfoldable pub scanNode : List ℕ → Progress → List ℕ → Scanned
 scanNode bytes p index =
     let at = p .at in
-    demand (leb (p .part) 1 && leb (at + 2) (length bytes)) 2
-    (demand (ltb (p .nodes) 1024) 3
-    (demand (leb (getD bytes (at + 1) 0) 15) 4
-    (goes-on record { at = at + 2; part = 1; attributes = p .attributes; nodes = p .nodes + 1 } (clearRow 32 (figurePlace (p .nodes) 0) index))))
+    demand (leb (p .part) node-part && leb (at + 2) (length bytes)) 2
+    (demand (ltb (p .nodes) nodeLimit) 3
+    (demand (leb (getD bytes (at + 1) 0) lastKind) 4
+    (goes-on record { at = at + 2; part = node-part; attributes = p .attributes; nodes = p .nodes + 1 } (clearRow attributeLimit (figurePlace (p .nodes) 0) index))))
 
 unfoldable pub scanFigure : List ℕ → Progress → List ℕ → Scanned
 scanFigure bytes p index =
@@ -87,15 +100,15 @@ scanFigure bytes p index =
     let n = ofBytes (take 2 (drop (at + 1) bytes)) in
     let a = getD bytes (at + 3) 0 in
     let w = ofBytes (take 4 (drop (at + 4) bytes)) in
-    demand (leb (p .part) 2 && leb (at + 8) (length bytes)) 2
-    (demand (ltb n (p .nodes) && ltb a (p .attributes) && isWord (p .nodes) (baseOf (getD bytes (3 * a + 1) 0)) w) 4
+    demand (leb (p .part) figure-part && leb (at + 8) (length bytes)) 2
+    (demand (ltb n (p .nodes) && ltb a (p .attributes) && isWord (p .nodes) (baseOf (resultAt bytes a)) w) 4
     (demand (eqb (getD index (figurePlace n a) 0) 0) 5
-    (goes-on record { at = at + 8; part = 2; attributes = p .attributes; nodes = p .nodes } (set index (figurePlace n a) (at + 1)))))
+    (goes-on record { at = at + 8; part = figure-part; attributes = p .attributes; nodes = p .nodes } (set index (figurePlace n a) (at + 1)))))
 
 unfoldable pub demandRule : List ℕ → Progress → ℕ → Whole → Scanned → Scanned
 demandRule bytes p a no-expression r = stops 6 at-offset 0
 demandRule bytes p a (expression e) r =
-    demand (hasType (attributesIn bytes (p .attributes)) (baseOf (getD bytes (3 * a + 2) 0)) (base (baseOf (getD bytes (3 * a + 1) 0))) e) 7 r
+    demand (hasType (attributesIn bytes (p .attributes)) (baseOf (parameterAt bytes a)) (base (baseOf (resultAt bytes a))) e) 7 r
 
 unfoldable pub scanRule : List ℕ → Progress → List ℕ → Scanned
 scanRule bytes p index =
@@ -103,11 +116,11 @@ scanRule bytes p index =
     let k = getD bytes (at + 1) 0 in
     let a = getD bytes (at + 2) 0 in
     let n = ofBytes (take 2 (drop (at + 3) bytes)) in
-    demand (leb (p .part) 3 && leb (at + 5) (length bytes) && leb (at + 5 + n) (length bytes)) 2
-    (demand (leb k 15 && ltb a (p .attributes)) 4
+    demand (leb (p .part) rule-part && leb (at + 5) (length bytes) && leb (at + 5 + n) (length bytes)) 2
+    (demand (leb k lastKind && ltb a (p .attributes)) 4
     (demand (eqb (getD index (rulePlace k a) 0) 0) 5
     (demandRule bytes p a (readWhole record { nodes = p .nodes; attributes = p .attributes; has-this = true; has-parameter = true } (pieceAt bytes at))
-    (goes-on record { at = at + 5 + n; part = 3; attributes = p .attributes; nodes = p .nodes } (set index (rulePlace k a) (at + 1))))))
+    (goes-on record { at = at + 5 + n; part = rule-part; attributes = p .attributes; nodes = p .nodes } (set index (rulePlace k a) (at + 1))))))
 
 unfoldable pub scanEnd : List ℕ → Progress → Scanned
 scanEnd bytes p = cond (eqb (p .at + 1) (length bytes)) ends (stops 2 at-offset 1)
@@ -131,12 +144,12 @@ unfoldable pub pairIndexed : List ℕ → ℕ → ℕ → ℕ → Bool
 pairIndexed index n k a = not (eqb (getD index (figurePlace n a) 0) 0) || not (eqb (getD index (rulePlace k a) 0) 0)
 
 unfoldable pub isIndexed : List ℕ → List ℕ → ℕ → ℕ → ℕ → Bool
-isIndexed bytes index attributes n a = pairIndexed index n (getD bytes (3 * attributes + 2 * n + 1) 0) a
+isIndexed bytes index attributes n a = pairIndexed index n (kindAt bytes attributes n) a
 
 unfoldable pub missingAt : List ℕ → List ℕ → ℕ → ℕ → ℕ → ℕ → Option ℕ
 missingAt bytes index attributes zero n a = none
 missingAt bytes index attributes (suc k) n a =
-    elim (isIndexed bytes index attributes n a) [ true ↦ missingAt bytes index attributes k n (suc a) | false ↦ some (n * 32 + a) ]
+    elim (isIndexed bytes index attributes n a) [ true ↦ missingAt bytes index attributes k n (suc a) | false ↦ some (figurePlace n a) ]
 
 unfoldable pub missingFrom : List ℕ → List ℕ → ℕ → ℕ → ℕ → Option ℕ
 missingFrom bytes index attributes zero n = none
@@ -149,8 +162,12 @@ pub record Scan : Type 0 where
   pub check : SheetCheck
   pub index : List ℕ
 
+-- An accepted sheet's index gets the numbers of its attributes and nodes.
+abbrev pub counted : ℕ → ℕ → List ℕ → List ℕ
+counted attributes nodes index = set (set index attributesPlace attributes) nodesPlace nodes
+
 unfoldable pub scanned : Progress → List ℕ → Option ℕ → Scan
-scanned p index none = record { check = Accepted (p .attributes) (p .nodes); index = index }
+scanned p index none = record { check = Accepted (p .attributes) (p .nodes); index = counted (p .attributes) (p .nodes) index }
 scanned p index (some place) = record { check = Refused 8 place; index = index }
 
 unfoldable pub scanFrom : ℕ → List ℕ → Progress → List ℕ → Scan
@@ -163,13 +180,13 @@ scanFrom (suc k) bytes p index =
     ]
 
 abbrev pub start : Progress
-start = record { at = 0; part = 0; attributes = 0; nodes = 0 }
+start = record { at = 0; part = attribute-part; attributes = 0; nodes = 0 }
 
 -- The rules' part of the index is cleared first.
 unfoldable pub scanSheet : List ℕ → List ℕ → Scan
 scanSheet bytes index =
-    cond (leb (length bytes) 65536)
-    (scanFrom (suc (length bytes)) bytes start (clearRow 512 32768 index))
+    cond (leb (length bytes) sheetLimit)
+    (scanFrom (suc (length bytes)) bytes start (clearRow rulePlaces rulesAt index))
     record { check = Refused 1 0; index = index }
 
 -- ---- What it comes to
@@ -183,41 +200,47 @@ checkOf (accepted s) = Accepted (attributeCount s) (nodeCount s)
 -- expression
 abbrev pub FigureFits : List ℕ → ℕ → ℕ → ℕ → Type 0
 FigureFits bytes nodes a at =
-    (at + 8 ≤ length bytes) × (isWord nodes (baseOf (getD bytes (3 * a + 1) 0)) (ofBytes (take 4 (drop (at + 4) bytes))) ≡ true)
+    (at + 8 ≤ length bytes) × (isWord nodes (baseOf (resultAt bytes a)) (ofBytes (take 4 (drop (at + 4) bytes))) ≡ true)
 
 abbrev pub RuleFits : List ℕ → ℕ → Type 0
 RuleFits bytes at =
-    (at + 5 + ofBytes (take 2 (drop (at + 3) bytes)) ≤ length bytes) × (ofBytes (take 2 (drop (at + 3) bytes)) ≤ 256)
+    (at + 5 + ofBytes (take 2 (drop (at + 3) bytes)) ≤ length bytes) × (ofBytes (take 2 (drop (at + 3) bytes)) ≤ expressionLimit)
 
--- The bytes and the index have all that an accepted sheet says: its attributes and kinds stand where they are looked for, and each
--- figure and each rule is the one at its number in the index, whose bytes are within the sheet's.
-pub record Indexed (bytes : List ℕ) (s : Sheet) (index : List ℕ) : Type 0 where
+-- The bytes and the index have all that a sheet says: its attributes and kinds stand where they are looked for, and each figure and each
+-- rule is the one at its number in the index, whose bytes are within the sheet's.
+pub record Described (bytes : List ℕ) (s : Sheet) (index : List ℕ) : Type 0 where
   pub size : length index ≡ indexSize
-  pub short : length bytes ≤ 65536
+  pub short : length bytes ≤ sheetLimit
   pub attributes-are : s .attributes ≡ attributesIn bytes (attributeCount s)
   pub kinds-are : s .kinds ≡ kindsIn (drop (3 * attributeCount s) bytes) (nodeCount s)
   pub room : 3 * attributeCount s + 2 * nodeCount s ≤ length bytes
-  pub attributes-bound : attributeCount s ≤ 32
-  pub nodes-bound : nodeCount s ≤ 1024
-  pub types-bound : (a : ℕ) → a < attributeCount s → (getD bytes (3 * a + 1) 0 < 4) × (getD bytes (3 * a + 2) 0 < 4)
-  pub kinds-bound : (n : ℕ) → n < nodeCount s → getD (s .kinds) n 0 ≤ 15
+  pub attributes-bound : attributeCount s ≤ attributeLimit
+  pub nodes-bound : nodeCount s ≤ nodeLimit
+  pub types-bound : (a : ℕ) → a < attributeCount s → (resultAt bytes a < 4) × (parameterAt bytes a < 4)
+  pub kinds-bound : (n : ℕ) → n < nodeCount s → getD (s .kinds) n 0 ≤ lastKind
   pub figures : (n a : ℕ) → n < nodeCount s → a < attributeCount s
       → figureFor (s .figures) n a ≡ indexed (getD index (figurePlace n a) 0) (figureAt bytes a)
   pub figure-fits : (n a at : ℕ) → n < nodeCount s → a < attributeCount s → getD index (figurePlace n a) 0 ≡ suc at
       → FigureFits bytes (nodeCount s) a at
-  pub rules : (k a : ℕ) → k ≤ 15 → a < attributeCount s → ruleFor (s .rules) k a ≡ indexed (getD index (rulePlace k a) 0) (pieceAt bytes)
-  pub rule-fits : (k a at : ℕ) → k ≤ 15 → a < attributeCount s → getD index (rulePlace k a) 0 ≡ suc at → RuleFits bytes at
+  pub rules : (k a : ℕ) → k ≤ lastKind → a < attributeCount s → ruleFor (s .rules) k a ≡ indexed (getD index (rulePlace k a) 0) (pieceAt bytes)
+  pub rule-fits : (k a at : ℕ) → k ≤ lastKind → a < attributeCount s → getD index (rulePlace k a) 0 ≡ suc at → RuleFits bytes at
+
+-- The index of an accepted sheet has its counts too.
+pub record Indexed (bytes : List ℕ) (s : Sheet) (index : List ℕ) : Type 0 where
+  pub described : Described bytes s index
+  pub attributes-in : getD index attributesPlace 0 ≡ attributeCount s
+  pub nodes-in : getD index nodesPlace 0 ≡ nodeCount s
 
 -- ---- What the code's functions answer
 
 -- What is known where a command is read: the counts are within their limits and within the sheet's bytes.
 pub record Reading (bytes : List ℕ) (p : Progress) : Type 0 where
-  pub parts : p .part ≤ 3
+  pub parts : p .part ≤ rule-part
   pub within : p .at ≤ length bytes
-  pub short : length bytes ≤ 65536
+  pub short : length bytes ≤ sheetLimit
   pub room : 3 * p .attributes + 2 * p .nodes ≤ length bytes
-  pub attributes-bound : p .attributes ≤ 32
-  pub nodes-bound : p .nodes ≤ 1024
+  pub attributes-bound : p .attributes ≤ attributeLimit
+  pub nodes-bound : p .nodes ≤ nodeLimit
 
 abbrev pub readOf : Read → List ℕ → Scanned
 readOf (Stops number offset) index = stops number at-offset offset
@@ -242,9 +265,9 @@ gapOf Nowhere = none
 pub record Declared (bytes index : List ℕ) (attributes n : ℕ) : Type 0 where
   pub size : length index ≡ indexSize
   pub room : 3 * attributes + 2 * n + 2 ≤ length bytes
-  pub attributes-bound : attributes ≤ 32
-  pub node-bound : n < 1024
-  pub kind-bound : getD bytes (3 * attributes + 2 * n + 1) 0 ≤ 15
+  pub attributes-bound : attributes ≤ attributeLimit
+  pub node-bound : n < nodeLimit
+  pub kind-bound : kindAt bytes attributes n ≤ lastKind
 
 abbrev pub scanOf : SheetCheck → List ℕ → Scan
 scanOf check index = record { check = check; index = index }
@@ -264,13 +287,12 @@ pub record IndexedPair (bytes index : List ℕ) (n a : ℕ) : Type 0 where
   pub attribute : a < attributeCount sheet
 
 -- the number that the index has for the rule of a node's kind and an attribute
-abbrev pub ruleNumber : List ℕ → List ℕ → ℕ → ℕ → ℕ → ℕ
-ruleNumber bytes index attributes n a = getD index (rulePlace (getD bytes (3 * attributes + 2 * n + 1) 0) a) 0
+abbrev pub ruleNumber : List ℕ → List ℕ → ℕ → ℕ → ℕ
+ruleNumber bytes index n a = getD index (rulePlace (kindAt bytes (getD index attributesPlace 0) n) a) 0
 
-pub record IndexedRule (bytes index : List ℕ) (attributes n a : ℕ) : Type 0 where
+pub record IndexedRule (bytes index : List ℕ) (n a : ℕ) : Type 0 where
   pub pair : IndexedPair bytes index n a
-  pub all : attributes ≡ attributeCount (pair .sheet)
-  pub ruled : ruleNumber bytes index attributes n a ≡ 0 → ⊥
+  pub ruled : ruleNumber bytes index n a ≡ 0 → ⊥
 
 abbrev pub figureOf : FoundFigure → Option Value
 figureOf (Of v) = some v

@@ -1,14 +1,37 @@
-// The check of a sheet and the index that it fills: stops 1 to 8 (document 01, "The sheet" and "Stops by origin").
+// The check of a sheet, which fills the sheet's index: stops 1 to 8 (document 01, "The sheet" and "Stops by origin").
+pub mod lookup;
+
 use expressions::Formed;
-use saiga::Value;
+use lookup::ATTRIBUTES_PLACE;
+use lookup::INDEX_SIZE;
+use lookup::NODES_PLACE;
+use lookup::RULE_PLACES;
+use lookup::RULES_AT;
+use saiga::limits::ATTRIBUTE_LIMIT;
+use saiga::limits::LAST_KIND;
+use saiga::limits::NODE_LIMIT;
+use saiga::limits::SHEET_LIMIT;
 ghost use mathlib.Core.Path.{_≡_};
 ghost use mathlib.Core.List.{List};
 ghost use Prim.Native.Nat.{ℕ, suc, _+_, _-_, _*_, _≤_, _<_};
 ghost use lib.ListN.{length, getD};
-ghost use Rattle.sheets.specs.Scan.{figurePlace, figureAt, pieceAt, indexed, indexSize, clearRow, scanAttribute, scanNode, scanFigure, scanRule, scanEnd, scanCommand, pairIndexed, missingAt, missingFrom, scanned, scanFrom, start, Reading, readOf, ReadAs, Declared, gapOf, scanOf, Checks, IndexedPair, IndexedRule, ruleNumber, figureOf};
+ghost use Rattle.saiga.specs.Limits.{sheetLimit, attributeLimit, nodeLimit, lastKind};
+ghost use Rattle.sheets.specs.Scan.{figurePlace, rulesAt, rulePlaces, rulePlace, figureAt, pieceAt, indexed, indexSize, clearRow, scanAttribute, scanNode, scanFigure, scanRule, scanEnd, scanCommand, pairIndexed, missingAt, missingFrom, scanned, scanFrom, start, Reading, readOf, ReadAs, Declared, gapOf, scanOf, Checks, IndexedPair, IndexedRule, ruleNumber, figureOf};
 
-// What is known of a sheet part way through its check: the offset reached, the part of the sheet reached (0 attributes, 1 nodes,
-// 2 figures, 3 rules), and how many attributes and nodes are declared.
+// The last kind, as a byte of the sheet.
+const LAST_KIND_BYTE: u8 = LAST_KIND as u8;
+
+// The parts of a sheet in the order of their commands.
+const ATTRIBUTE_PART: u32 = 0;
+
+const NODE_PART: u32 = 1;
+
+const FIGURE_PART: u32 = 2;
+
+const RULE_PART: u32 = 3;
+
+// What is known of a sheet part way through its check: the offset reached, the part of the sheet reached, and how many attributes
+// and nodes are declared.
 pub struct Progress {
     pub at: usize,
     pub part: u32,
@@ -35,12 +58,6 @@ enum Gap {
     Nowhere,
 }
 
-// A definition that is a figure, if it is one.
-pub enum FoundFigure {
-    Of(Value),
-    NoFigure,
-}
-
 fn wide(b: u8) -> usize
     ensures { λ r. ⌜ (r ≡ b) × (r < 256) ⌝ }
 {
@@ -65,13 +82,13 @@ fn read_attribute(sheet: &[u8], p: Progress) -> Read
     ensures { λ r. ⌜ ((index : List ℕ) → ReadAs r index index (scanAttribute (now (sheet .entry)) p index)) ⌝ }
 {
     let at = p.at;
-    if 0 < p.part {
+    if ATTRIBUTE_PART < p.part {
         return Read::Stops(2, 0);
     }
     if sheet.len() < at + 3 {
         return Read::Stops(2, 0);
     }
-    if 32 <= p.attributes {
+    if ATTRIBUTE_LIMIT <= p.attributes {
         return Read::Stops(3, 0);
     }
     if 4 <= sheet[at + 1] {
@@ -82,7 +99,7 @@ fn read_attribute(sheet: &[u8], p: Progress) -> Read
     }
     Read::GoesOn(Progress {
         at: at + 3,
-        part: 0,
+        part: ATTRIBUTE_PART,
         attributes: p.attributes + 1,
         nodes: p.nodes,
     })
@@ -93,22 +110,22 @@ fn read_node(sheet: &[u8], index: &mut [u32], p: Progress) -> Read
     ensures { λ r. ⌜ ReadAs r (now (index .exit)) (now (index .entry)) (scanNode (now (sheet .entry)) p (now (index .entry))) ⌝ }
 {
     let at = p.at;
-    if 1 < p.part {
+    if NODE_PART < p.part {
         return Read::Stops(2, 0);
     }
     if sheet.len() < at + 2 {
         return Read::Stops(2, 0);
     }
-    if 1024 <= p.nodes {
+    if NODE_LIMIT <= p.nodes {
         return Read::Stops(3, 0);
     }
-    if 15 < sheet[at + 1] {
+    if LAST_KIND_BYTE < sheet[at + 1] {
         return Read::Stops(4, 0);
     }
-    clear(index, p.nodes * 32, 32);
+    clear(index, lookup::figure_place(p.nodes, 0), ATTRIBUTE_LIMIT);
     Read::GoesOn(Progress {
         at: at + 2,
-        part: 1,
+        part: NODE_PART,
         attributes: p.attributes,
         nodes: p.nodes + 1,
     })
@@ -119,7 +136,7 @@ fn read_figure(sheet: &[u8], index: &mut [u32], p: Progress) -> Read
     ensures { λ r. ⌜ ReadAs r (now (index .exit)) (now (index .entry)) (scanFigure (now (sheet .entry)) p (now (index .entry))) ⌝ }
 {
     let at = p.at;
-    if 2 < p.part {
+    if FIGURE_PART < p.part {
         return Read::Stops(2, 0);
     }
     if sheet.len() < at + 8 {
@@ -133,17 +150,21 @@ fn read_figure(sheet: &[u8], index: &mut [u32], p: Progress) -> Read
     if p.attributes <= a {
         return Read::Stops(4, 0);
     }
-    if !values::is_word(p.nodes, sheet[3 * a + 1], values::four(sheet, at + 4)) {
+    if !values::is_word(
+        p.nodes,
+        values::result_at(sheet, a),
+        values::four(sheet, at + 4),
+    ) {
         return Read::Stops(4, 0);
     }
-    let place = n * 32 + a;
+    let place = lookup::figure_place(n, a);
     if index[place] != 0 {
         return Read::Stops(5, 0);
     }
     index[place] = (at + 1) as u32;
     Read::GoesOn(Progress {
         at: at + 8,
-        part: 2,
+        part: FIGURE_PART,
         attributes: p.attributes,
         nodes: p.nodes,
     })
@@ -166,13 +187,13 @@ fn read_rule(sheet: &[u8], index: &mut [u32], p: Progress) -> Read
     }
     let k = wide(sheet[at + 1]);
     let a = wide(sheet[at + 2]);
-    if 15 < k {
+    if LAST_KIND < k {
         return Read::Stops(4, 0);
     }
     if attributes <= a {
         return Read::Stops(4, 0);
     }
-    let place = 32768 + k * 32 + a;
+    let place = lookup::rule_place(k, a);
     if index[place] != 0 {
         return Read::Stops(5, 0);
     }
@@ -182,19 +203,19 @@ fn read_rule(sheet: &[u8], index: &mut [u32], p: Progress) -> Read
         nodes,
         true,
         true,
-        sheet[3 * a + 2],
+        values::parameter_at(sheet, a),
         &sheet[start..end],
     );
     let Formed::Expression(t) = formed else {
         return Read::Stops(6, 0);
     };
-    if t != expressions::base_number(sheet[3 * a + 1]) {
+    if t != expressions::base_number(values::result_at(sheet, a)) {
         return Read::Stops(7, 0);
     }
     index[place] = (at + 1) as u32;
     Read::GoesOn(Progress {
         at: end,
-        part: 3,
+        part: RULE_PART,
         attributes,
         nodes,
     })
@@ -234,24 +255,24 @@ fn read_command(sheet: &[u8], index: &mut [u32], p: Progress) -> Read
 
 // Whether a node of kind k has a figure or a rule for an attribute.
 fn is_defined(index: &[u32], n: usize, k: usize, a: usize) -> bool
-    requires { ⌜ (length (now index) ≡ indexSize) × (n < 1024) × (k ≤ 15) × (a < 32) ⌝ }
+    requires { ⌜ (length (now index) ≡ indexSize) × (n < nodeLimit) × (k ≤ lastKind) × (a < attributeLimit) ⌝ }
     ensures { λ r. ⌜ r ≡ pairIndexed (now (index .entry)) n k a ⌝ }
 {
-    if index[n * 32 + a] != 0 {
+    if index[lookup::figure_place(n, a)] != 0 {
         return true;
     }
-    index[32768 + k * 32 + a] != 0
+    index[lookup::rule_place(k, a)] != 0
 }
 
 fn gap_of_node(sheet: &[u8], index: &[u32], attributes: usize, n: usize) -> Gap
     requires { ⌜ Declared (now sheet) (now index) attributes n ⌝ }
     ensures { λ r. ⌜ gapOf r ≡ missingAt (now (sheet .entry)) (now (index .entry)) attributes attributes n 0 ⌝ }
 {
-    let k = wide(sheet[3 * attributes + 2 * n + 1]);
+    let k = wide(values::kind_at(sheet, attributes, n));
     let mut a = 0;
     while a < attributes {
         if !is_defined(index, n, k, a) {
-            return Gap::At(n * 32 + a);
+            return Gap::At(lookup::figure_place(n, a));
         }
         a += 1;
     }
@@ -273,12 +294,16 @@ fn first_gap(sheet: &[u8], index: &[u32], attributes: usize, nodes: usize) -> Ga
     Gap::Nowhere
 }
 
-fn complete(sheet: &[u8], index: &[u32], p: Progress) -> SheetCheck
+// The pass for missing pairs. The index of a sheet that passes gets the numbers of attributes and nodes.
+fn complete(sheet: &[u8], index: &mut [u32], p: Progress) -> SheetCheck
     requires { ⌜ ((n : ℕ) → n < p .nodes → Declared (now sheet) (now index) (p .attributes) n) ⌝ }
-    ensures { λ r. ⌜ scanOf r (now (index .entry))
+    requires { ⌜ Reading (now sheet) p × (length (now index) ≡ indexSize) ⌝ }
+    ensures { λ r. ⌜ scanOf r (now (index .exit))
         ≡ scanned p (now (index .entry)) (missingFrom (now (sheet .entry)) (now (index .entry)) (p .attributes) (p .nodes) 0) ⌝ }
 {
     let Gap::At(place) = first_gap(sheet, index, p.attributes, p.nodes) else {
+        index[ATTRIBUTES_PLACE] = p.attributes as u32;
+        index[NODES_PLACE] = p.nodes as u32;
         return SheetCheck::Accepted(p.attributes, p.nodes);
     };
     SheetCheck::Refused(8, place)
@@ -286,14 +311,14 @@ fn complete(sheet: &[u8], index: &[u32], p: Progress) -> SheetCheck
 
 // The commands from the front, then the pass for missing pairs. The rules' part of the index is cleared first.
 fn read_commands(sheet: &[u8], index: &mut [u32]) -> SheetCheck
-    requires { ⌜ (length (now sheet) ≤ 65536) × (length (now index) ≡ indexSize) ⌝ }
+    requires { ⌜ (length (now sheet) ≤ sheetLimit) × (length (now index) ≡ indexSize) ⌝ }
     ensures { λ r. ⌜ scanOf r (now (index .exit))
-        ≡ scanFrom (suc (length (now (sheet .entry)))) (now (sheet .entry)) start (clearRow 512 32768 (now (index .entry))) ⌝ }
+        ≡ scanFrom (suc (length (now (sheet .entry)))) (now (sheet .entry)) start (clearRow rulePlaces rulesAt (now (index .entry))) ⌝ }
 {
-    clear(index, 32768, 512);
+    clear(index, RULES_AT, RULE_PLACES);
     let mut p = Progress {
         at: 0,
-        part: 0,
+        part: ATTRIBUTE_PART,
         attributes: 0,
         nodes: 0,
     };
@@ -312,47 +337,13 @@ fn read_commands(sheet: &[u8], index: &mut [u32]) -> SheetCheck
     }
 }
 
-// The check of a sheet. It fills the index: where each figure stands, at node × 32 + attribute, and each rule, at 32,768 + kind × 32 +
-// attribute, as the offset of its command and one, or 0.
-pub fn check(sheet: &[u8], index: &mut [u32; 33280]) -> SheetCheck
+// The check of a sheet. It fills the index: at its place each figure and each rule, as the offset of its command and one, or 0.
+pub fn check(sheet: &[u8], index: &mut [u32; INDEX_SIZE]) -> SheetCheck
     ensures { λ r. ⌜ Checks (now (sheet .entry)) r (now (index .exit)) ⌝ }
 {
     let numbers: &mut [u32] = index;
-    if 65536 < sheet.len() {
+    if SHEET_LIMIT < sheet.len() {
         return SheetCheck::Refused(1, 0);
     }
     read_commands(sheet, numbers)
-}
-
-// The figure of a pair, by one read of the index.
-pub fn figure(sheet: &[u8], index: &[u32], n: usize, a: usize) -> FoundFigure
-    requires { ⌜ IndexedPair (now sheet) (now index) n a ⌝ }
-    ensures { λ r. ⌜ figureOf r ≡ indexed (getD (now (index .entry)) (figurePlace n a) 0) (figureAt (now (sheet .entry)) a) ⌝ }
-{
-    let place = index[n * 32 + a] as usize;
-    if place == 0 {
-        return FoundFigure::NoFigure;
-    }
-    FoundFigure::Of(values::value_of(sheet[3 * a + 1], values::four(sheet, place + 3)))
-}
-
-// The piece of the rule for a node's kind and an attribute, as a part of the sheet.
-pub fn rule<'a>(sheet: &'a [u8], index: &[u32], attributes: usize, n: usize, a: usize) -> &'a [u8]
-    requires { ⌜ IndexedRule (now sheet) (now index) attributes n a ⌝ }
-    ensures { λ r. ⌜ now r ≡ pieceAt (now (sheet .entry)) (ruleNumber (now (sheet .entry)) (now (index .entry)) attributes n a - 1) ⌝ }
-{
-    let k = wide(sheet[3 * attributes + 2 * n + 1]);
-    let place = index[32768 + k * 32 + a] as usize;
-    let start = place + 4;
-    let end = start + values::two(sheet, place + 2) as usize;
-    &sheet[start..end]
-}
-
-// Where that piece starts in the sheet.
-pub fn rule_start(sheet: &[u8], index: &[u32], attributes: usize, n: usize, a: usize) -> usize
-    requires { ⌜ IndexedRule (now sheet) (now index) attributes n a ⌝ }
-    ensures { λ r. ⌜ r ≡ ruleNumber (now (sheet .entry)) (now (index .entry)) attributes n a + 4 ⌝ }
-{
-    let k = wide(sheet[3 * attributes + 2 * n + 1]);
-    index[32768 + k * 32 + a] as usize + 4
 }

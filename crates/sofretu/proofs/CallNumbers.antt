@@ -5,7 +5,7 @@ use mathlib.Core.Path.{_≡_, refl, sym, ap, _∙_}
 use Prim.Native.Nat.{ℕ, zero, suc, _/_, _%_, _<_, min}
 use native.Mathlib.Omega.{arith}
 use lib.Dec.{leb, eqb}
-use lib.ListN.{length, take, drop, length-replicate}
+use lib.ListN.{length, take, drop, getD, length-replicate}
 use lib.IntN.{ℤ}
 use Rattle.saiga.specs.Limits.{entryWidth, storeLimit}
 use Rattle.saiga.specs.Sheet.{Sheet, Checked, refused_at-place_, accepted, checkSheet}
@@ -14,42 +14,37 @@ use Rattle.saiga.specs.Store.{isEntry, entryOf, readEntries, capacity, checkSto
 use Rattle.saiga.proofs.Accepted.{refused-numbers}
 use Rattle.sheets.specs.declared.SheetCheck.{SheetCheck}
 use Rattle.sheets.specs.declared.SheetCheck.the-variants as for-sheet
-use Rattle.sheets.specs.Scan.{checkOf, Checks}
+use Rattle.sheets.specs.Scan.{attributesPlace, nodesPlace, checkOf, Checks}
 use Rattle.stores.specs.declared.StoreCheck.{StoreCheck}
 use Rattle.stores.specs.declared.StoreCheck.the-variants as for-store
 use Rattle.stores.specs.Keys.{storeCheckOf, StoreChecked}
 use Rattle.calls.specs.Prepared.{PreparedSheet}
-use Rattle.calls.proofs.CheckLaws.{sheet-prepared, sheet-of, attributes-fit, store-prepared}
+use Rattle.calls.proofs.CheckLaws.{SheetWith, counted, sheet-prepared, sheet-of, attributes-fit, store-prepared}
 use Rattle.sofretu.specs.Check.{numberOf, placeOf, sheetFound, declaring, StoreFound}
 
 -- ---- The sheet
 
 module _ {sheet index : List ℕ} {r : SheetCheck} (checked : Checks sheet r index) where
   pub sheet-refusal : {number place : ℕ} → r ≡ for-sheet.Refused number place
-      → (number ∷ place ∷ 0 ∷ 0 ∷ [] ≡ sheetFound (checkSheet sheet))
-      × ((attributes nodes : ℕ) → number ∷ place ∷ 0 ∷ 0 ∷ [] ≡ 0 ∷ 0 ∷ attributes ∷ nodes ∷ [] → PreparedSheet sheet index attributes nodes)
+      → (number ∷ place ∷ 0 ∷ 0 ∷ [] ≡ sheetFound (checkSheet sheet)) × (number ≡ 0 → PreparedSheet sheet index)
   unfolding checkOf sheetFound
   sheet-refusal {number} {place} is = go (checkSheet sheet) refl (checked .checked)
     where
       go : (C : Checked Sheet) → checkSheet sheet ≡ C → r ≡ checkOf C
-          → (number ∷ place ∷ 0 ∷ 0 ∷ [] ≡ sheetFound C)
-          × ((attributes nodes : ℕ) → number ∷ place ∷ 0 ∷ 0 ∷ [] ≡ 0 ∷ 0 ∷ attributes ∷ nodes ∷ [] → PreparedSheet sheet index attributes nodes)
+          → (number ∷ place ∷ 0 ∷ 0 ∷ [] ≡ sheetFound C) × (number ≡ 0 → PreparedSheet sheet index)
       go (refused n at-place p) c e =
           let same : for-sheet.Refused n p ≡ for-sheet.Refused number place = sym e ∙ is in
           let a : number ≡ n = cc in
           let b : place ≡ p = cc in
-          (rw (a, b), λ attributes nodes z. let none : number ≡ 0 = cc in absurd (omega (arith, refused-numbers sheet n p c .0)))
+          (rw (a, b), λ none. absurd (omega (arith, a, refused-numbers sheet n p c .0)))
       go (accepted s) c e = absurd (let z : _≡_ {A = ℕ} 0 1 = cc in omega arith)
 
   pub sheet-acceptance : {attributes nodes : ℕ} → r ≡ for-sheet.Accepted attributes nodes
-      → (0 ∷ 0 ∷ attributes ∷ nodes ∷ [] ≡ sheetFound (checkSheet sheet))
-      × ((a n : ℕ) → 0 ∷ 0 ∷ attributes ∷ nodes ∷ [] ≡ 0 ∷ 0 ∷ a ∷ n ∷ [] → PreparedSheet sheet index a n)
+      → (0 ∷ 0 ∷ attributes ∷ nodes ∷ [] ≡ sheetFound (checkSheet sheet)) × (_≡_ {A = ℕ} 0 0 → PreparedSheet sheet index)
   unfolding sheetFound
   sheet-acceptance {attributes} {nodes} is =
-      let p = sheet-prepared checked is in (
-        rw (p .accepts, p .attributes-are, p .nodes-are),
-        λ a n z. let (same-attributes, same-nodes) : (attributes ≡ a) × (nodes ≡ n) = (cc, cc) in rw (same-attributes, same-nodes) at p,
-      )
+      let p = sheet-prepared checked is in
+      (rw (p .prepared .accepts, p .attributes-are, p .nodes-are), λ _. p .prepared)
 
 -- ---- The store
 
@@ -81,8 +76,9 @@ passing s store kept e = go (checkStore s store kept) refl e
     go (accepted entries) is z = (entries, refl)
 
 -- The check of a store, put to so many of the attributes as the bytes have.
-module _ {sheet : List ℕ} (attributes : ℕ) {stand nodes : ℕ} {store : List ℕ} {kept : ℕ} {links : List ℕ} {r : StoreCheck}
-    (checked : StoreChecked sheet stand nodes store kept links r) (as-many : stand ≡ min attributes (length sheet / 3)) where
+module _ {sheet : List ℕ} (index : List ℕ) {attributes stand nodes : ℕ} {store : List ℕ} {kept : ℕ} {links : List ℕ} {r : StoreCheck}
+    (checked : StoreChecked sheet stand nodes store kept links r) (as-many : stand ≡ min attributes (length sheet / 3))
+    (attributes-in : attributes ≡ getD index attributesPlace 0) (nodes-in : nodes ≡ getD index nodesPlace 0) where
   abbrev read : Checked (List Entry)
   read = checkStore (declaring sheet attributes nodes) store kept
 
@@ -90,25 +86,28 @@ module _ {sheet : List ℕ} (attributes : ℕ) {stand nodes : ℕ} {store : List
   unfolding declaring
   answer-is = checked .answer (declaring sheet attributes nodes) (rw as-many refl) (length-replicate nodes 0)
 
-  module _ {index : List ℕ} (p : PreparedSheet sheet index attributes nodes) where
+  module _ (p : PreparedSheet sheet index) where
+    abbrev with-counts : SheetWith sheet index attributes nodes
+    with-counts = counted p attributes-in nodes-in
+
     all-stand : stand ≡ attributes
-    all-stand = let fit = attributes-fit p in omega arith
+    all-stand = let fit = attributes-fit with-counts in omega arith
 
     of-sheet : r ≡ storeCheckOf (checkStore (p .of) store kept)
-    of-sheet = checked .answer (p .of) (rw all-stand (sheet-of p .attributes-are)) (p .nodes-are)
+    of-sheet = checked .answer (p .of) (rw all-stand (sheet-of with-counts .attributes-are)) (with-counts .nodes-are)
 
   pub found : {number place : ℕ} → ((C : Checked (List Entry)) → r ≡ storeCheckOf C → (number ≡ numberOf C) × (place ≡ placeOf C))
-      → (number ≡ 0 → r ≡ for-store.Accepted) → StoreFound sheet attributes nodes store kept links number place
+      → (number ≡ 0 → r ≡ for-store.Accepted) → StoreFound sheet index store kept links number place
   found {number} {place} says none =
       record {
-        number-is = says read answer-is .0;
-        place-is = says read answer-is .1;
-        of-sheet = λ index p. says (checkStore (p .of) store kept) (of-sheet p);
-        prepared = λ index p z. store-prepared p (rw (all-stand p) at checked) (none z);
+        number-is = rw (attributes-in, nodes-in) at (says read answer-is .0);
+        place-is = rw (attributes-in, nodes-in) at (says read answer-is .1);
+        of-sheet = λ p. says (checkStore (p .of) store kept) (of-sheet p);
+        prepared = λ p z. store-prepared (with-counts p) (rw (all-stand p) at checked) (none z);
         links-length = checked .size;
       }
 
-  pub store-refusal : {number place : ℕ} → r ≡ for-store.Refused number place → StoreFound sheet attributes nodes store kept links number place
+  pub store-refusal : {number place : ℕ} → r ≡ for-store.Refused number place → StoreFound sheet index store kept links number place
   unfolding storeCheckOf numberOf placeOf
   store-refusal {number} {place} is =
       found (says is) (λ z. let (entries, passes) = passing (declaring sheet attributes nodes) store kept (sym (says is read answer-is .0) ∙ z) in answer-is ∙ ap storeCheckOf passes)
@@ -117,7 +116,7 @@ module _ {sheet : List ℕ} (attributes : ℕ) {stand nodes : ℕ} {store : List
       says is (refused n at-place p) e = let same : for-store.Refused n p ≡ for-store.Refused number place = sym e ∙ is in (cc, cc)
       says is (accepted entries) e = absurd (let z : _≡_ {A = ℕ} 0 1 = cc in omega arith)
 
-  pub store-acceptance : r ≡ for-store.Accepted → StoreFound sheet attributes nodes store kept links 0 0
+  pub store-acceptance : r ≡ for-store.Accepted → StoreFound sheet index store kept links 0 0
   unfolding storeCheckOf numberOf placeOf
   store-acceptance is = found says (λ z. is)
     where

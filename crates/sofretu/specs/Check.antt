@@ -2,11 +2,13 @@
 use mathlib.Core.List.{List, [], _∷_}
 use mathlib.Core.Path.{_≡_}
 use Prim.Native.Nat.{ℕ, _/_, min}
-use lib.ListN.{length, replicate}
+use lib.ListN.{length, getD, replicate}
 use Rattle.saiga.specs.Sheet.{Sheet, nodeCount, attributeCount, Checked, refused_at-place_, accepted}
 use Rattle.saiga.specs.Caching.{Entry}
 use Rattle.saiga.specs.Store.{checkStore}
 use Rattle.values.specs.Layout.{attributesIn}
+use Rattle.sheets.specs.Scan.{attributesPlace, nodesPlace}
+use Rattle.stores.specs.Keys.{linksSize}
 use Rattle.calls.specs.Prepared.{PreparedSheet, PreparedStore}
 
 -- the number and the place of a check: 0 and 0 where nothing is refused
@@ -31,12 +33,13 @@ unfoldable pub declaring : List ℕ → ℕ → ℕ → Sheet
 declaring bytes attributes nodes =
     record { attributes = attributesIn bytes (min attributes (length bytes / 3)); kinds = replicate nodes 0; figures = []; rules = [] }
 
--- What the check of a store brings, for any arguments. Of a sheet that was accepted with these numbers of attributes and nodes it is the check of
--- document 01, and a store that passes is then indexed. The links keep their length; of a store that is refused what they hold is free.
-pub record StoreFound (sheet : List ℕ) (attributes nodes : ℕ) (store : List ℕ) (kept : ℕ) (links : List ℕ) (number place : ℕ) : Type 0 where
-  pub number-is : number ≡ numberOf (checkStore (declaring sheet attributes nodes) store kept)
-  pub place-is : place ≡ placeOf (checkStore (declaring sheet attributes nodes) store kept)
-  pub of-sheet : (index : List ℕ) (p : PreparedSheet sheet index attributes nodes)
+-- What the check of a store brings, for any arguments: its sheet declares as many attributes and nodes as the index says. Of a sheet that was accepted
+-- with this index it is the check of document 01, and a store that passes is then indexed. The links keep their length; of a store that is refused
+-- what they hold is free.
+pub record StoreFound (sheet index store : List ℕ) (kept : ℕ) (links : List ℕ) (number place : ℕ) : Type 0 where
+  pub number-is : number ≡ numberOf (checkStore (declaring sheet (getD index attributesPlace 0) (getD index nodesPlace 0)) store kept)
+  pub place-is : place ≡ placeOf (checkStore (declaring sheet (getD index attributesPlace 0) (getD index nodesPlace 0)) store kept)
+  pub of-sheet : (p : PreparedSheet sheet index)
       → (number ≡ numberOf (checkStore (p .of) store kept)) × (place ≡ placeOf (checkStore (p .of) store kept))
-  pub prepared : (index : List ℕ) → PreparedSheet sheet index attributes nodes → number ≡ 0 → PreparedStore sheet store kept links
-  pub links-length : length links ≡ 2048
+  pub prepared : PreparedSheet sheet index → number ≡ 0 → PreparedStore sheet store kept links
+  pub links-length : length links ≡ linksSize

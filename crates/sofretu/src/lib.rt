@@ -1,14 +1,18 @@
 // What others link: the calls of the engine as C functions, on numbers and byte slices. A slice is a pointer and then a length.
 use calls::Answer;
 use calls::checks::Verdict;
+use engine::RUN_SIZE;
 use sheets::SheetCheck;
+use sheets::lookup::INDEX_SIZE;
+use stores::LINKS_SIZE;
 use stores::StoreCheck;
-ghost use mathlib.Core.List.{_∷_, []};
+ghost use mathlib.Core.List.{_∷_};
 ghost use mathlib.Core.Path.{_≡_};
-ghost use Prim.Native.Nat.{ℕ, min};
+ghost use Prim.Native.Nat.{min};
 ghost use lib.ListN.{length};
 ghost use Rattle.saiga.specs.Ask.{lent, asking, checkCall, ask};
 ghost use Rattle.saiga.specs.Sheet.{checkSheet};
+ghost use Rattle.sheets.specs.Scan.{indexSize};
 ghost use Rattle.calls.specs.Answers.{answerOf};
 ghost use Rattle.calls.specs.Prepared.{PreparedSheet, PreparedStore};
 ghost use Rattle.calls.specs.Verdict.{Indexes};
@@ -30,8 +34,8 @@ pub extern "C" fn sofretu_check(
     ensures { λ r. ⌜ r ≡ numberOf (checkCall (now (sheet .entry)) (lent (now (store .entry)) kept) (asking (now (question .entry)) budget)) ⌝ }
     ensures { λ _. ⌜ now (place .exit) ≡ placeOf (checkCall (now (sheet .entry)) (lent (now (store .entry)) kept) (asking (now (question .entry)) budget)) ⌝ }
 {
-    let mut index = [0u32; 33280];
-    let mut links = [0u32; 2048];
+    let mut index = [0u32; INDEX_SIZE];
+    let mut links = [0u32; LINKS_SIZE];
     match calls::checks::check(
         sheet,
         question,
@@ -99,10 +103,9 @@ pub extern "C" fn sofretu_ask_in<'a>(
     store: &mut [u8],
     kept: u64,
     budget: u64,
-    index: &mut [u32; 33280],
-    links: &mut [u32; 2048],
-    frames: &mut [u64; 16640],
-    forms: &mut [u32; 256],
+    index: &mut [u32; INDEX_SIZE],
+    links: &mut [u32; LINKS_SIZE],
+    memory: &mut [u64; RUN_SIZE],
     answer: &mut [i64; 6],
 )
     ensures { λ _. ⌜ now (answer .exit) ≡ six (ask (now (sheet .entry)) (lent (now (store .entry)) kept) (asking (now (question .entry)) budget) .answer) ⌝ }
@@ -110,7 +113,7 @@ pub extern "C" fn sofretu_ask_in<'a>(
     ensures { λ _. ⌜ Indexes (now (sheet .entry)) (now (store .exit))
         (ask (now (sheet .entry)) (lent (now (store .entry)) kept) (asking (now (question .entry)) budget) .answer .kept) (now (index .exit)) (now (links .exit)) ⌝ }
     ensures { λ _. ⌜ RunScratch (checkCall (now (sheet .entry)) (lent (now (store .entry)) kept) (asking (now (question .entry)) budget))
-        (now (frames .entry)) (now (forms .entry)) (now (frames .exit)) (now (forms .exit)) ⌝ }
+        (now (memory .entry)) (now (memory .exit)) ⌝ }
 {
     let a = calls::ask(
         sheet,
@@ -120,8 +123,7 @@ pub extern "C" fn sofretu_ask_in<'a>(
         budget as usize,
         index,
         links,
-        frames,
-        forms,
+        memory,
     );
     lay(a, answer);
 }
@@ -139,10 +141,9 @@ pub extern "C" fn sofretu_ask<'a>(
     ensures { λ _. ⌜ now (answer .exit) ≡ six (ask (now (sheet .entry)) (lent (now (store .entry)) kept) (asking (now (question .entry)) budget) .answer) ⌝ }
     ensures { λ _. ⌜ now (store .exit) ≡ ask (now (sheet .entry)) (lent (now (store .entry)) kept) (asking (now (question .entry)) budget) .store ⌝ }
 {
-    let mut index = [0u32; 33280];
-    let mut links = [0u32; 2048];
-    let mut frames = [0u64; 16640];
-    let mut forms = [0u32; 256];
+    let mut index = [0u32; INDEX_SIZE];
+    let mut links = [0u32; LINKS_SIZE];
+    let mut memory = [0u64; RUN_SIZE];
     sofretu_ask_in(
         sheet,
         question,
@@ -151,8 +152,7 @@ pub extern "C" fn sofretu_ask<'a>(
         budget,
         &mut index,
         &mut links,
-        &mut frames,
-        &mut forms,
+        &mut memory,
         answer,
     );
 }
@@ -162,13 +162,12 @@ pub extern "C" fn sofretu_ask<'a>(
 #[no_mangle]
 pub extern "C" fn sofretu_check_sheet(
     sheet: &[u8],
-    index: &mut [u32; 33280],
+    index: &mut [u32; INDEX_SIZE],
     found: &mut [u64; 3],
 ) -> u32
     ensures { λ r. ⌜ (r ∷ now (found .exit)) ≡ sheetFound (checkSheet (now (sheet .entry))) ⌝ }
-    ensures { λ r. ⌜ ((attributes nodes : ℕ) → (r ∷ now (found .exit)) ≡ 0 ∷ 0 ∷ attributes ∷ nodes ∷ []
-        → PreparedSheet (now (sheet .entry)) (now (index .exit)) attributes nodes) ⌝ }
-    ensures { λ _. ⌜ length (now (index .exit)) ≡ 33280 ⌝ }
+    ensures { λ r. ⌜ (r ≡ 0 → PreparedSheet (now (sheet .entry)) (now (index .exit))) ⌝ }
+    ensures { λ _. ⌜ length (now (index .exit)) ≡ indexSize ⌝ }
 {
     match sheets::check(sheet, index) {
         SheetCheck::Refused(number, place) => {
@@ -188,25 +187,24 @@ fn least(a: usize, b: usize) -> usize
     if a <= b { a } else { b }
 }
 
-// The check of a store, which fills the store's index: 0, 9 or 10, with the place in `place`. The sheet is one that was accepted with these numbers
-// of attributes and nodes; of other numbers the answer is that for a sheet of as many of these attributes as stand in its first bytes, three to
-// each, and of so many nodes.
+// The check of a store, which fills the store's index: 0, 9 or 10, with the place in `place`. The sheet is one that was accepted, with its index. Of
+// other numbers in the index the answer is that for a sheet of as many of these attributes as stand in its first bytes, three to each, and of so
+// many nodes.
 #[no_mangle]
 pub extern "C" fn sofretu_check_store(
     sheet: &[u8],
-    attributes: u64,
-    nodes: u64,
+    index: &[u32; INDEX_SIZE],
     store: &[u8],
     kept: u64,
-    links: &mut [u32; 2048],
+    links: &mut [u32; LINKS_SIZE],
     place: &mut u64,
 ) -> u32
-    ensures { λ r. ⌜ StoreFound (now (sheet .entry)) attributes nodes (now (store .entry)) kept (now (links .exit)) r (now (place .exit)) ⌝ }
+    ensures { λ r. ⌜ StoreFound (now (sheet .entry)) (now (index .entry)) (now (store .entry)) kept (now (links .exit)) r (now (place .exit)) ⌝ }
 {
     match stores::check(
         sheet,
-        least(attributes as usize, sheet.len() / 3),
-        nodes as usize,
+        least(sheets::lookup::attribute_count(index), sheet.len() / 3),
+        sheets::lookup::node_count(index),
         store,
         kept as usize,
         links,
@@ -222,44 +220,38 @@ pub extern "C" fn sofretu_check_store(
     }
 }
 
-// A question to a sheet and a store that were checked: index, attributes and nodes as sofretu_check_sheet left them, links as
-// sofretu_check_store or an earlier call of this left them. What it answers and leaves is what sofretu_ask does.
+// A question to a sheet and a store that were checked: index as sofretu_check_sheet left it, links as sofretu_check_store or an earlier call of this
+// left them. What it answers and leaves is what sofretu_ask does.
 #[no_mangle]
 pub extern "C" fn sofretu_ask_checked<'a>(
     sheet: &'a [u8],
-    attributes: u64,
-    nodes: u64,
-    index: &[u32; 33280],
+    index: &[u32; INDEX_SIZE],
     question: &'a [u8],
     store: &mut [u8],
     kept: u64,
     budget: u64,
-    links: &mut [u32; 2048],
-    frames: &mut [u64; 16640],
-    forms: &mut [u32; 256],
+    links: &mut [u32; LINKS_SIZE],
+    memory: &mut [u64; RUN_SIZE],
     answer: &mut [i64; 6],
 )
-    requires { ⌜ PreparedSheet (now sheet) (now index) attributes nodes ⌝ }
+    requires { ⌜ PreparedSheet (now sheet) (now index) ⌝ }
     requires { ⌜ PreparedStore (now sheet) (now store) kept (now links) ⌝ }
     ensures { λ _. ⌜ now (answer .exit) ≡ six (ask (now (sheet .entry)) (lent (now (store .entry)) kept) (asking (now (question .entry)) budget) .answer) ⌝ }
     ensures { λ _. ⌜ now (store .exit) ≡ ask (now (sheet .entry)) (lent (now (store .entry)) kept) (asking (now (question .entry)) budget) .store ⌝ }
     ensures { λ _. ⌜ PreparedStore (now (sheet .entry)) (now (store .exit))
         (ask (now (sheet .entry)) (lent (now (store .entry)) kept) (asking (now (question .entry)) budget) .answer .kept) (now (links .exit)) ⌝ }
     ensures { λ _. ⌜ RunScratch (checkCall (now (sheet .entry)) (lent (now (store .entry)) kept) (asking (now (question .entry)) budget))
-        (now (frames .entry)) (now (forms .entry)) (now (frames .exit)) (now (forms .exit)) ⌝ }
+        (now (memory .entry)) (now (memory .exit)) ⌝ }
 {
     let a = calls::ask_checked(
         sheet,
         index,
-        attributes as usize,
-        nodes as usize,
         question,
         store,
         kept as usize,
         budget as usize,
         links,
-        frames,
-        forms,
+        memory,
     );
     lay(a, answer);
 }

@@ -8,23 +8,27 @@ use native.Mathlib.Nat.{zero-add, suc-add, add-comm, mul-suc}
 use native.Mathlib.Numerals.{add-one}
 use native.Mathlib.Omega.{arith}
 use lib.Dec.{eqb, ltb}
-use lib.ListN.{length, take, drop, getD, length-append}
+use lib.ListN.{length, take, drop, length-append}
 use lib.Seq.{drop-drop}
-use borrow.Author.Tests.{ltb-true, eqb-true, eqb-false, eq-eqb, not-true}
+use borrow.Author.Tests.{ltb-true, eqb-true, eqb-false, eq-eqb, not-true, not-false}
 use Rattle.saiga.specs.Values.{Base, isWord, ofWord}
+use Rattle.saiga.specs.declared.Fields.{Fields}
 use Rattle.saiga.specs.declared.Value.{Value}
 use Rattle.saiga.specs.Types.{attributeAt}
 use Rattle.saiga.specs.Sheet.{Sheet, nodeCount, attributeCount, Checked, refused_at-place_, accepted}
+use Rattle.values.specs.Layout.{attributesIn}
 use Rattle.saiga.specs.Terms.{Occurrence}
 use Rattle.saiga.specs.Caching.{Entry, sameOccurrence, kept, isKept}
 use Rattle.saiga.specs.Store.{entryOf, isEntry, readEntries, checkStore}
 use Rattle.saiga.specs.Sound.{OccurrenceIn}
 use Rattle.saiga.proofs.FourBytes.{word-trip, word-in, same-value-refl}
 use Rattle.saiga.proofs.Equality.{same-occurrence}
-use Rattle.saiga.proofs.Entries.{store-in}
-use Rattle.stores.specs.Keys.{Key, keyOf, sameKey, keyAt, findKey, entryAt, entriesIn, valueWord, keptAt}
-use Rattle.stores.proofs.Parts.{part-taken, part-at, byte-at}
-use Rattle.stores.proofs.Chains.{same-key, key-refl, found-below}
+use Rattle.saiga.proofs.Entries.{store-in, read-one, read-none}
+use Rattle.stores.specs.declared.Key.{Key}
+use Rattle.stores.specs.Keys.{keyOf, sameKey, fieldsAt, keyIn, keyAt, findKey, foundOf, entryAt, entriesIn, valueWord, keptAt}
+use Rattle.stores.specs.declared.Found.{Found}
+use Rattle.stores.specs.declared.Found.the-variants.{At, Nothing}
+use Rattle.stores.proofs.Chains.{same-key, key-refl, found-below, nothing-found, found-at}
 
 -- ---- Reading entries
 
@@ -33,19 +37,9 @@ andThen (refused number at-place place) f = refused number at-place place
 andThen (accepted es) f = f es
 
 module _ (s : Sheet) where
-  read-one : (k : ℕ) (before : List Entry) (l : List ℕ) → isEntry s before (take 12 l) ≡ true
-      → readEntries s (suc k) before l ≡ readEntries s k (before ++ entryOf s (take 12 l) ∷ []) (drop 12 l)
-  unfolding readEntries
-  read-one k before l e = rw (e, readEntries)
-
-  read-none : (k : ℕ) (before : List Entry) (l : List ℕ) → isEntry s before (take 12 l) ≡ false
-      → readEntries s (suc k) before l ≡ refused 10 at-place (length before)
-  unfolding readEntries
-  read-none k before l e = rw (e, readEntries)
-
   read-single : (before : List Entry) (l : List ℕ) → isEntry s before (take 12 l) ≡ true → readEntries s 1 before l ≡ accepted (before ++ entryOf s (take 12 l) ∷ [])
   unfolding readEntries
-  read-single before l e = read-one 0 before l e
+  read-single before l e = read-one s 0 before l e
 
   -- Some entries are read, and then the rest.
   read-then : (k j : ℕ) (before : List Entry) (l : List ℕ)
@@ -56,8 +50,8 @@ module _ (s : Sheet) where
       go : (b : Bool) → isEntry s before (take 12 l) ≡ b
           → ((before : List Entry) (l : List ℕ) → readEntries s (k + j) before l ≡ andThen (readEntries s k before l) (λ es. readEntries s j es (drop (12 * k) l)))
           → readEntries s (suc k + j) before l ≡ andThen (readEntries s (suc k) before l) (λ es. readEntries s j es (drop (12 * suc k) l))
-      go true e rest = rw (suc-add, read-one (k + j) before l e, read-one k before l e, mul-suc, add-comm (12 * k) 12, ← drop-drop (12 * k) 12 l) (rest _ _)
-      go false e rest = unfold andThen in rw (suc-add, read-none (k + j) before l e, read-none k before l e)
+      go true e rest = rw (suc-add, read-one s (k + j) before l e, read-one s k before l e, mul-suc, add-comm (12 * k) 12, ← drop-drop (12 * k) 12 l) (rest _ _)
+      go false e rest = unfold andThen in rw (suc-add, read-none s (k + j) before l e, read-none s k before l e)
 
 -- ---- The first k entries
 
@@ -130,19 +124,19 @@ entryWith s q w = record {
 
 module _ (s : Sheet) (store : List ℕ) (j : ℕ) where
   entry-is : entryAt s store j ≡ entryWith s (keyAt store j) (valueWord store j)
-  unfolding keyAt entryOf
-  entry-is = rw (part-taken 0 2 12 (drop (12 * j) store) (omega arith), byte-at store j 2 (omega arith), part-at store j 4 4 (omega arith), part-at store j 8 4 (omega arith))
+  unfolding fieldsAt keyIn entryOf
+  entry-is = refl
 
   -- the tests of an entry, but for whether its occurrence was kept before
   unfoldable pub tests : Bool
   tests =
-      ltb (keyAt store j .node) (nodeCount s) && ltb (keyAt store j .attribute) (attributeCount s) && eqb (getD store (12 * j + 3) 0) 0
+      ltb (keyAt store j .node) (nodeCount s) && ltb (keyAt store j .attribute) (attributeCount s) && eqb (fieldsAt store j .fourth) 0
       && isWord (nodeCount s) (parameterType s (keyAt store j)) (keyAt store j .word)
       && isWord (nodeCount s) (resultType s (keyAt store j)) (valueWord store j)
 
   pub entry-tests : (before : List Entry) → isEntry s before (take 12 (drop (12 * j) store)) ≡ (tests && not (isKept (kept before (entryAt s store j .occurrence))))
-  unfolding keyAt isEntry tests
-  entry-tests before = rw (part-taken 0 2 12 (drop (12 * j) store) (omega arith), byte-at store j 2 (omega arith), byte-at store j 3 (omega arith), part-at store j 4 4 (omega arith), part-at store j 8 4 (omega arith))
+  unfolding fieldsAt keyIn isEntry tests
+  entry-tests before = refl
 
   module _ (passed : tests ≡ true) where
     word-passed : isWord (nodeCount s) (parameterType s (keyAt store j)) (keyAt store j .word) ≡ true
@@ -249,45 +243,51 @@ module _ (s : Sheet) (store : List ℕ) (k : ℕ) (es : List Entry) (passes : ch
   unfolding keyOf
   kept-by-key = rw entries (kept-found s store o declared k (rw entries at (store-in s store k es passes .reads)))
 
-  pub kept-none : findKey store k (keyOf o) ≡ none → kept es o ≡ none
-  unfolding keptAt
-  kept-none e = rw e at kept-by-key
-
-  module _ (j : ℕ) (found : findKey store k (keyOf o) ≡ some j) where
-    pub kept-some : kept es o ≡ some (ofWord (attributeAt (s .attributes) (o .attribute) .result) (valueWord store j))
-    unfolding keptAt
-    kept-some = rw found at kept-by-key
-
-    pub kept-word : isWord (nodeCount s) (attributeAt (s .attributes) (o .attribute) .result) (valueWord store j) ≡ true
-    unfolding keyOf
-    kept-word =
-        let at = found-below store k (keyOf o) j found in
-        let word = value-passed s store j (passed-at s store k j (rw entries at (store-in s store k es passes .reads)) (at .0)) in
-        rw (same-key _ _ (at .1)) at word
+  pub kept-word : (j : ℕ) → findKey store k (keyOf o) ≡ some j → isWord (nodeCount s) (attributeAt (s .attributes) (o .attribute) .result) (valueWord store j) ≡ true
+  unfolding keyOf
+  kept-word j found =
+      let at = found-below store k (keyOf o) j found in
+      let word = value-passed s store j (passed-at s store k j (rw entries at (store-in s store k es passes .reads)) (at .0)) in
+      rw (same-key _ _ (at .1)) at word
 
 -- ---- One entry more
+
+-- What the code's test of entry j answers, for each sheet of these attributes and nodes: by itself, and after the entries before it.
+abbrev pub Alone : List ℕ → ℕ → ℕ → List ℕ → ℕ → Bool → Type 0
+Alone types attributes nodes store j r = (s : Sheet) → s .attributes ≡ attributesIn types attributes → nodeCount s ≡ nodes → r ≡ isEntry s [] (take 12 (drop (12 * j) store))
+
+abbrev pub Tested : List ℕ → ℕ → ℕ → List ℕ → ℕ → Bool → Type 0
+Tested types attributes nodes store j r =
+    (s : Sheet) → s .attributes ≡ attributesIn types attributes → nodeCount s ≡ nodes → readEntries s j [] store ≡ accepted (entriesIn s store j)
+    → r ≡ isEntry s (entriesIn s store j) (take 12 (drop (12 * j) store))
 
 module _ (s : Sheet) (store : List ℕ) (j : ℕ) where
   pub first-tests : isEntry s [] (take 12 (drop (12 * j) store)) ≡ tests s store j
   unfolding kept isKept
   first-tests = entry-tests s store j [] ∙ and-true (tests s store j)
 
-  -- What fails by itself fails after any entries.
-  pub entry-fails : (before : List Entry) → isEntry s [] (take 12 (drop (12 * j) store)) ≡ false → isEntry s before (take 12 (drop (12 * j) store)) ≡ false
-  entry-fails before t = rw (entry-tests s store j before, ← first-tests, t)
+  module _ (types : List ℕ) (attributes nodes : ℕ) (a : s .attributes ≡ attributesIn types attributes) (n : nodeCount s ≡ nodes) {r : Bool}
+      (alone : Alone types attributes nodes store j r) where
+    -- What fails by itself fails after any entries.
+    pub entry-fails : not r ≡ true → (before : List Entry) → false ≡ isEntry s before (take 12 (drop (12 * j) store))
+    entry-fails t before = rw (entry-tests s store j before, ← first-tests, ← alone s a n, not-true r t)
 
-  -- What passes by itself passes after the entries before it if none of them has its key.
-  module _ (reads : readEntries s j [] store ≡ accepted (entriesIn s store j)) (passed : isEntry s [] (take 12 (drop (12 * j) store)) ≡ true) where
-    all-tests : tests s store j ≡ true
-    all-tests = sym first-tests ∙ passed
+    -- What passes by itself passes after the entries before it if none of them has its key.
+    module _ (passed : not r ≡ false) (reads : readEntries s j [] store ≡ accepted (entriesIn s store j)) where
+      all-tests : tests s store j ≡ true
+      all-tests = sym first-tests ∙ sym (alone s a n) ∙ not-false r passed
 
-    entry-kept : kept (entriesIn s store j) (entryAt s store j .occurrence) ≡ keptAt (resultType s (keyAt store j)) store (findKey store j (keyAt store j))
-    entry-kept = rw (entry-key s store j all-tests) at (kept-found s store (entryAt s store j .occurrence) (entry-in s store j all-tests) j reads)
+      entry-kept : kept (entriesIn s store j) (entryAt s store j .occurrence) ≡ keptAt (resultType s (keyAt store j)) store (findKey store j (keyAt store j))
+      entry-kept = rw (entry-key s store j all-tests) at (kept-found s store (entryAt s store j .occurrence) (entry-in s store j all-tests) j reads)
 
-    pub entry-new : findKey store j (keyAt store j) ≡ none → isEntry s (entriesIn s store j) (take 12 (drop (12 * j) store)) ≡ true
-    unfolding keptAt isKept
-    entry-new e = rw (entry-tests s store j (entriesIn s store j), all-tests, entry-kept, e)
+      module _ {f : Fields} (at : f ≡ fieldsAt store j) {q : Key} (key : q ≡ keyIn f) {found : Found} (answer : found ≡ foundOf (findKey store j q)) where
+        same : q ≡ keyAt store j
+        same = key ∙ ap keyIn at
 
-    pub entry-known : (i : ℕ) → findKey store j (keyAt store j) ≡ some i → isEntry s (entriesIn s store j) (take 12 (drop (12 * j) store)) ≡ false
-    unfolding keptAt isKept
-    entry-known i e = rw (entry-tests s store j (entriesIn s store j), all-tests, entry-kept, e)
+        pub entry-new : found ≡ Nothing → true ≡ isEntry s (entriesIn s store j) (take 12 (drop (12 * j) store))
+        unfolding keptAt isKept
+        entry-new e = rw (entry-tests s store j (entriesIn s store j), all-tests, entry-kept, nothing-found store j answer same e)
+
+        pub entry-known : (i : ℕ) → found ≡ At i → false ≡ isEntry s (entriesIn s store j) (take 12 (drop (12 * j) store))
+        unfolding keptAt isKept
+        entry-known i e = rw (entry-tests s store j (entriesIn s store j), all-tests, entry-kept, found-at store j answer same i e)

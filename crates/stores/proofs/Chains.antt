@@ -3,7 +3,7 @@ use mathlib.Core.Bool.{Bool, true, false, cond, and-eq-true-iff}
 use mathlib.Core.List.{List}
 use mathlib.Core.Option.{Option, none, some}
 use mathlib.Core.Path.{_≡_, refl, sym, _∙_, ap}
-use Prim.Native.Nat.{ℕ, zero, suc, _+_, _*_, _≤_, _<_}
+use Prim.Native.Nat.{ℕ, zero, suc, _+_, _*_, _-_, _≤_, _<_}
 use native.Mathlib.Nat.{mod-lt, le-refl}
 use native.Mathlib.Numerals.{add-one}
 use native.Mathlib.Omega.{arith}
@@ -11,7 +11,9 @@ use lib.Dec.{eqb, lit<}
 use lib.ListN.{length, take, getD, set, length-set}
 use lib.Seq.{getD-set-same, getD-set-other}
 use borrow.Author.Tests.{eqb-true, eqb-false, eq-eqb, ne-eqb}
-use Rattle.stores.specs.Keys.{Key, sameKey, keyAt, findKey, foundOf, bucketOf, lastIn, Linked}
+use Rattle.saiga.specs.declared.Fields.{Fields}
+use Rattle.stores.specs.declared.Key.{Key}
+use Rattle.stores.specs.Keys.{sameKey, fieldsAt, keyIn, keyAt, findKey, foundOf, bucketOf, lastIn, Linked}
 use Rattle.stores.specs.declared.Found.{Found}
 use Rattle.stores.specs.declared.Found.the-variants.{At, Nothing}
 use Rattle.stores.proofs.Parts.{key-same}
@@ -27,6 +29,20 @@ same-key p q e i =
 pub key-refl : (q : Key) → sameKey q q ≡ true
 unfolding sameKey
 key-refl q = rw (eq-eqb (q .node) (q .node) refl, eq-eqb (q .attribute) (q .attribute) refl, eq-eqb (q .word) (q .word) refl)
+
+-- The code's tests of the numbers f of entry j.
+module _ (store : List ℕ) (j : ℕ) (q : Key) {f : Fields} (at : f ≡ fieldsAt store j) where
+  pub other-node : (f .node ≡ q .node → ⊥) → false ≡ sameKey (keyAt store j) q
+  unfolding sameKey keyIn
+  other-node n = rw (← at, ne-eqb _ _ n)
+
+  pub other-attribute : f .node ≡ q .node → (f .attribute ≡ q .attribute → ⊥) → false ≡ sameKey (keyAt store j) q
+  unfolding sameKey keyIn
+  other-attribute n a = rw (← at, eq-eqb _ _ n, ne-eqb _ _ a)
+
+  pub by-word : f .node ≡ q .node → f .attribute ≡ q .attribute → eqb (f .parameter) (q .word) ≡ sameKey (keyAt store j) q
+  unfolding sameKey keyIn
+  by-word n a = rw (← at, eq-eqb _ _ n, eq-eqb _ _ a)
 
 bucket-small : (q : Key) → bucketOf q < 1024
 unfolding bucketOf
@@ -130,36 +146,60 @@ module _ (store : List ℕ) (k : ℕ) (q : Key) where
     in-bucket = last-in store n (bucketOf q);
   }
 
-  pub walk-start : (index : List ℕ) → Linked store k index → Walk store k q (getD index (bucketOf q) 0)
-  walk-start index l = rw (l .heads (bucketOf q) (bucket-small q)) (walk-at k (le-refl k) refl)
+  pub walk-start : (index : List ℕ) → Linked store k index → {b : ℕ} → b ≡ bucketOf q → Walk store k q (getD index b 0)
+  walk-start index l e = rw (e, l .heads (bucketOf q) (bucket-small q)) (walk-at k (le-refl k) refl)
 
-  pub walk-found : (i j : ℕ) → Walk store k q i → i ≡ suc j → sameKey (keyAt store j) q ≡ true → findKey store k q ≡ some j
-  walk-found i j w e t = w .same ∙ rw e (find-same store j q t)
+  -- The code passes from i to the entry before it.
+  module _ (i : ℕ) (w : Walk store k q i) where
+    pub walk-ended : i ≤ 0 → Nothing ≡ foundOf (findKey store k q)
+    unfolding foundOf
+    walk-ended h = let z : i ≡ 0 = omega arith in rw (w .same, z) (unfold findKey in refl)
 
-  -- the forerunner of an entry that has another key
-  module _ (index : List ℕ) (l : Linked store k index) (i j : ℕ) (w : Walk store k q i) (e : i ≡ suc j) where
-    forerunner : getD index (1024 + j) 0 ≡ lastIn store j (bucketOf q)
-    forerunner = let h = w .within in l .forerunners j (omega arith) ∙ ap (lastIn store j) (w .in-bucket j e)
+    module _ (more : 0 < i) where
+      one-more : i ≡ suc (i - 1)
+      one-more = omega arith
 
-    pub walk-on : sameKey (keyAt store j) q ≡ false → Walk store k q (getD index (1024 + j) 0)
-    walk-on t = rw forerunner (let h = w .within in walk-at j (omega arith) (w .same ∙ rw e (find-other store j q t)))
+      pub walk-found : {r : Bool} → r ≡ sameKey (keyAt store (i - 1)) q → r ≡ true → At (i - 1) ≡ foundOf (findKey store k q)
+      unfolding foundOf
+      walk-found t e = sym (ap foundOf (w .same ∙ ap (λ n. findKey store n q) one-more ∙ find-same store (i - 1) q (sym t ∙ e)))
 
-    pub walk-less : getD index (1024 + j) 0 < i
-    walk-less = let h = last-below store j (bucketOf q) in rw forerunner (omega arith)
+      -- the forerunner of an entry that has another key
+      module _ (index : List ℕ) (l : Linked store k index) where
+        forerunner : getD index (1024 + (i - 1)) 0 ≡ lastIn store (i - 1) (bucketOf q)
+        forerunner = let h = w .within in l .forerunners (i - 1) (omega arith) ∙ ap (lastIn store (i - 1)) (w .in-bucket (i - 1) one-more)
 
-  pub walk-ended : Walk store k q 0 → findKey store k q ≡ none
-  unfolding findKey
-  walk-ended w = w .same
+        pub walk-on : {r : Bool} → r ≡ sameKey (keyAt store (i - 1)) q → r ≡ false → Walk store k q (getD index (1024 + (i - 1)) 0)
+        walk-on t e =
+            rw forerunner
+            (let h = w .within in walk-at (i - 1) (omega arith) (w .same ∙ ap (λ n. findKey store n q) one-more ∙ find-other store (i - 1) q (sym t ∙ e)))
+
+        pub walk-less : getD index (1024 + (i - 1)) 0 < i
+        walk-less = let h = last-below store (i - 1) (bucketOf q) in rw forerunner (omega arith)
 
 -- ---- The index
 
--- The buckets are emptied one after the other.
-pub clear-more : (index : List ℕ) (b : ℕ) → b < length index → ((c : ℕ) → c < b → getD index c 0 ≡ 0) → (c : ℕ) → c < b + 1 → getD (set index b 0) c 0 ≡ 0
-clear-more index b h clear c less = go (eqb c b) refl
-  where
-    go : (t : Bool) → eqb c b ≡ t → getD (set index b 0) c 0 ≡ 0
-    go true t = rw (eqb-true c b t) (getD-set-same index b 0 0 h)
-    go false t = let other = eqb-false c b t in getD-set-other index b c 0 0 other ∙ clear c (omega arith)
+-- The buckets are emptied one after the other: those below b are.
+pub record Cleared (index : List ℕ) (b : ℕ) : Type 0 where
+  pub within : b ≤ 1024
+  pub size : length index ≡ 2048
+  pub empty : (c : ℕ) → c < b → getD index c 0 ≡ 0
+
+module _ (index : List ℕ) where
+  pub cleared-none : length index ≡ 2048 → Cleared index 0
+  cleared-none size = record { within = omega arith; size = size; empty = λ c h. absurd (omega arith) }
+
+  module _ (b : ℕ) (cleared : Cleared index b) where
+    pub cleared-more : b < 1024 → Cleared (set index b 0) (b + 1)
+    cleared-more h =
+        let size = cleared .size in
+        record { within = omega arith; size = simp length-set size; empty = λ c less. go c less (eqb c b) refl }
+      where
+        go : (c : ℕ) → c < b + 1 → (t : Bool) → eqb c b ≡ t → getD (set index b 0) c 0 ≡ 0
+        go c less true t = let size = cleared .size in rw (eqb-true c b t) (getD-set-same index b 0 0 (omega arith))
+        go c less false t = let other = eqb-false c b t in getD-set-other index b c 0 0 other ∙ cleared .empty c (omega arith)
+
+    pub cleared-all : 1024 ≤ b → (c : ℕ) → c < 1024 → getD index c 0 ≡ 0
+    cleared-all all c h = cleared .empty c (omega arith)
 
 -- An index of no entries.
 pub linked-none : (store index : List ℕ) → length index ≡ 2048 → ((b : ℕ) → b < 1024 → getD index b 0 ≡ 0) → Linked store 0 index
@@ -167,7 +207,11 @@ unfolding lastIn
 linked-none store index size clear = record { size = size; few = omega arith; stands = omega arith; heads = clear; forerunners = λ j h. absurd (omega arith) }
 
 -- An entry is put in as the last of its bucket.
-module _ (store : List ℕ) (k : ℕ) (index : List ℕ) (l : Linked store k index) (few : k < 1024) (b : ℕ) (e : b ≡ bucketOf (keyAt store k)) where
+module _ (store : List ℕ) (k : ℕ) (index : List ℕ) (l : Linked store k index) (few : k < 1024) {f : Fields} (at : f ≡ fieldsAt store k) {q : Key} (key : q ≡ keyIn f)
+    (b : ℕ) (bucket : b ≡ bucketOf q) where
+  e : b ≡ bucketOf (keyAt store k)
+  e = bucket ∙ ap bucketOf (key ∙ ap keyIn at)
+
   more-heads : (c : ℕ) → c < 1024 → getD (set (set index (1024 + k) (getD index b 0)) b (k + 1)) c 0 ≡ lastIn store (k + 1) c
   more-heads c h = go (eqb c b) refl
     where

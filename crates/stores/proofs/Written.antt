@@ -6,41 +6,42 @@ use native.Mathlib.Numerals.{towards-suc}
 use native.Mathlib.Omega.{arith}
 use lib.ListN.{length, take, drop, set, length-append, length-take, length-drop}
 use lib.Seq.{sets, sets-eq, length-take-le, take-at, drop-append-le, drop-append-add, drop-drop}
-use Rattle.saiga.specs.Values.{toBytes, toWord}
+use Rattle.saiga.specs.Values.{toBytes}
 use Rattle.saiga.specs.Caching.{Entry}
-use Rattle.saiga.specs.Store.{entryBytes, entriesBytes, leftStore}
-use Rattle.saiga.proofs.Entries.{entry-length}
-use Rattle.stores.specs.Keys.{Key, keyOf, recordOf, putAt, Linked}
+use Rattle.saiga.specs.declared.Fields.{Fields}
+use Rattle.saiga.specs.Store.{fieldBytes, entryBytes, entriesBytes, leftStore}
+use Rattle.saiga.proofs.Entries.{entry-length, entries-length}
+use Rattle.stores.specs.Keys.{putAt, Linked}
 use Rattle.stores.proofs.Chains.{linked-same}
 
-pub entry-record : (e : Entry) → entryBytes e ≡ recordOf (keyOf (e .occurrence)) (toWord (e .value))
-unfolding entryBytes recordOf keyOf
-entry-record e = refl
-
-record-length : (q : Key) (v : ℕ) → length (recordOf q v) ≡ 12
-unfolding recordOf toBytes
-record-length q v = refl
+fields-length : (f : Fields) → length (fieldBytes f) ≡ 12
+unfolding fieldBytes toBytes
+fields-length f = refl
 
 module _ (store : List ℕ) (k : ℕ) (fits : 12 * k + 12 ≤ length store) where
-  -- The stores of an entry's parts, one after the other.
-  pub written : (q : Key) (v : ℕ)
-      → sets (sets (set (set (sets store (12 * k) (toBytes 2 (q .node))) (12 * k + 2) (q .attribute)) (12 * k + 3) 0) (12 * k + 4) (toBytes 4 (q .word))) (12 * k + 8) (toBytes 4 v)
-      ≡ putAt store k (recordOf q v)
-  unfolding putAt recordOf toBytes
-  written q v = simp towards-suc refl ∙ sets-eq (recordOf q v) store (12 * k) fits
-
-  module _ (q : Key) (v : ℕ) where
-    put-length : length (putAt store k (recordOf q v)) ≡ length store
+  module _ (f : Fields) where
+    put-length : length (putAt store k (fieldBytes f)) ≡ length store
     unfolding putAt
-    put-length = let twelve = record-length q v in simp (length-append, length-take, length-drop) (omega arith)
+    put-length = let twelve = fields-length f in simp (length-append, length-take, length-drop) (omega arith)
 
-    put-before : take (12 * k) store ≡ take (12 * k) (putAt store k (recordOf q v))
+    put-before : take (12 * k) store ≡ take (12 * k) (putAt store k (fieldBytes f))
     unfolding putAt
     put-before = rw append-assoc (sym (take-at (take (12 * k) store) _ (12 * k) (length-take-le (12 * k) store (omega arith))))
 
+    -- The code writes an entry's parts one after the other.
+    module _ {noded parametered valued : List ℕ} (n : noded ≡ sets store (12 * k) (toBytes 2 (f .node)))
+        (p : parametered ≡ sets (set (set noded (12 * k + 2) (f .attribute)) (12 * k + 3) (f .fourth)) (12 * k + 4) (toBytes 4 (f .parameter)))
+        (v : valued ≡ sets parametered (12 * k + 8) (toBytes 4 (f .value))) where
+      pub written : valued ≡ putAt store k (fieldBytes f)
+      unfolding putAt fieldBytes toBytes
+      written = v ∙ rw (p, n) (simp towards-suc refl ∙ sets-eq (fieldBytes f) store (12 * k) fits)
+
+      pub written-length : length valued ≡ length store
+      written-length = ap length written ∙ put-length
+
     -- The index over the entries before it stays one.
-    pub linked-put : (index : List ℕ) → Linked store k index → Linked (putAt store k (recordOf q v)) k index
-    linked-put index l = linked-same store (putAt store k (recordOf q v)) k put-before index (rw put-length (l .stands)) l
+    pub linked-put : {put : List ℕ} → put ≡ putAt store k (fieldBytes f) → (index : List ℕ) → Linked store k index → Linked put k index
+    linked-put e index l = rw e (linked-same store (putAt store k (fieldBytes f)) k put-before index (rw put-length (l .stands)) l)
 
 -- ---- The store that a call leaves
 
@@ -48,11 +49,6 @@ entries-append : (a b : List Entry) → entriesBytes (a ++ b) ≡ entriesBytes a
 unfolding entriesBytes
 entries-append [] b = refl
 entries-append (e ∷ a) b = rw (entries-append a b) (sym (append-assoc (entryBytes e) (entriesBytes a) (entriesBytes b)))
-
-entries-length : (es : List Entry) → length (entriesBytes es) ≡ 12 * length es
-unfolding entriesBytes
-entries-length [] = refl
-entries-length (e ∷ es) = rw (length-append, entry-length, entries-length es) (omega arith)
 
 module _ (store : List ℕ) (k : ℕ) (es : List Entry) (more : k ≤ length es) (fits : 12 * length es + 12 ≤ length store) where
   front : List ℕ

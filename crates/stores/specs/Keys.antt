@@ -6,13 +6,16 @@ use mathlib.Core.Path.{_≡_}
 use Prim.Native.Nat.{ℕ, zero, suc, _+_, _*_, _/_, _%_, _<_, _≤_}
 use lib.Dec.{eqb}
 use lib.ListN.{length, take, drop, getD}
-use Rattle.saiga.specs.Values.{Base, ofBytes, toBytes, ofWord, toWord}
+use Rattle.saiga.specs.Limits.{entryWidth, entryLimit}
+use Rattle.saiga.specs.Values.{Base, ofWord, toWord}
 use Rattle.saiga.specs.declared.Value.{Value}
 use Rattle.saiga.specs.Sheet.{Sheet, nodeCount, Checked, refused_at-place_, accepted}
 use Rattle.values.specs.Layout.{attributesIn}
 use Rattle.saiga.specs.Terms.{Occurrence}
 use Rattle.saiga.specs.Caching.{Entry}
-use Rattle.saiga.specs.Store.{entryOf, checkStore}
+use Rattle.saiga.specs.declared.Fields.{Fields}
+use Rattle.saiga.specs.Store.{fieldBytes, fieldsOf, fieldsFor, entryOf, checkStore}
+use Rattle.stores.specs.declared.Key.{Key}
 use Rattle.stores.specs.declared.Found.{Found}
 use Rattle.stores.specs.declared.Found.the-variants.{At, Nothing}
 use Rattle.stores.specs.declared.StoreCheck.{StoreCheck}
@@ -20,26 +23,21 @@ use Rattle.stores.specs.declared.StoreCheck.the-variants.{Refused, Accep
 
 -- ---- Keys
 
--- An occurrence in bytes: the numbers of its node and attribute, and its parameter's four-byte form.
-pub record Key : Type 0 where
-  pub node : ℕ
-  pub attribute : ℕ
-  pub word : ℕ
-
 unfoldable pub keyOf : Occurrence → Key
 keyOf o = record { node = o .node; attribute = o .attribute; word = toWord (o .parameter) }
 
 unfoldable pub sameKey : Key → Key → Bool
 sameKey p q = eqb (p .node) (q .node) && eqb (p .attribute) (q .attribute) && eqb (p .word) (q .word)
 
--- the key of entry j
-unfoldable pub keyAt : List ℕ → ℕ → Key
-keyAt store j =
-    record {
-      node = ofBytes (take 2 (drop (12 * j) store));
-      attribute = getD store (12 * j + 2) 0;
-      word = ofBytes (take 4 (drop (12 * j + 4) store));
-    }
+-- The numbers of entry j, which its bytes hold, and its key.
+unfoldable pub fieldsAt : List ℕ → ℕ → Fields
+fieldsAt store j = fieldsOf (take entryWidth (drop (entryWidth * j) store))
+
+unfoldable pub keyIn : Fields → Key
+keyIn f = record { node = f .node; attribute = f .attribute; word = f .parameter }
+
+abbrev pub keyAt : List ℕ → ℕ → Key
+keyAt store j = keyIn (fieldsAt store j)
 
 -- the last of the first k entries with a key
 unfoldable pub findKey : List ℕ → ℕ → Key → Option ℕ
@@ -52,9 +50,9 @@ foundOf (some j) = At j
 
 -- ---- Entries
 
--- entry j, which twelve bytes hold
+-- entry j
 abbrev pub entryAt : Sheet → List ℕ → ℕ → Entry
-entryAt s store j = entryOf s (take 12 (drop (12 * j) store))
+entryAt s store j = entryOf s (take entryWidth (drop (entryWidth * j) store))
 
 -- the first k entries
 unfoldable pub entriesIn : Sheet → List ℕ → ℕ → List Entry
@@ -63,7 +61,7 @@ entriesIn s store (suc k) = entriesIn s store k ++ entryAt s store k ∷ []
 
 -- the four-byte form of the value of entry j
 abbrev pub valueWord : List ℕ → ℕ → ℕ
-valueWord store j = ofBytes (take 4 (drop (12 * j + 8) store))
+valueWord store j = fieldsAt store j .value
 
 -- the value of an entry that was found, of type B
 unfoldable pub keptAt : Base → List ℕ → Option ℕ → Option Value
@@ -72,15 +70,21 @@ keptAt B store (some j) = some (ofWord B (valueWord store j))
 
 -- An entry in bytes, and a store with these bytes for entry k.
 unfoldable pub recordOf : Key → ℕ → List ℕ
-recordOf q value = toBytes 2 (q .node) ++ q .attribute ∷ 0 ∷ toBytes 4 (q .word) ++ toBytes 4 value
+recordOf q value = fieldBytes (fieldsFor (q .node) (q .attribute) (q .word) value)
 
 unfoldable pub putAt : List ℕ → ℕ → List ℕ → List ℕ
-putAt store k bytes = take (12 * k) store ++ bytes ++ drop (12 * k + 12) store
+putAt store k bytes = take (entryWidth * k) store ++ bytes ++ drop (entryWidth * k + entryWidth) store
 
--- ---- The index: 1,024 buckets, and for each entry its forerunner in its bucket. Numbers stand one higher, and 0 for none.
+-- ---- The index: buckets, and for each entry its forerunner in its bucket. Numbers stand one higher, and 0 for none.
+
+abbrev pub bucketCount : ℕ
+bucketCount = 1024
+
+abbrev pub linksSize : ℕ
+linksSize = 2048
 
 unfoldable pub bucketOf : Key → ℕ
-bucketOf q = ((q .node * 32 + q .attribute) * 37190065 + q .word * 40503) / 65536 % 1024
+bucketOf q = ((q .node * 32 + q .attribute) * 37190065 + q .word * 40503) / 65536 % bucketCount
 
 -- the last of the first k entries in a bucket, and one; or 0
 unfoldable pub lastIn : List ℕ → ℕ → ℕ → ℕ
@@ -88,11 +92,11 @@ lastIn store zero b = 0
 lastIn store (suc k) b = cond (eqb (bucketOf (keyAt store k)) b) (suc k) (lastIn store k b)
 
 pub record Linked (store : List ℕ) (k : ℕ) (index : List ℕ) : Type 0 where
-  pub size : length index ≡ 2048
-  pub few : k ≤ 1024
-  pub stands : 12 * k ≤ length store
-  pub heads : (b : ℕ) → b < 1024 → getD index b 0 ≡ lastIn store k b
-  pub forerunners : (j : ℕ) → j < k → getD index (1024 + j) 0 ≡ lastIn store j (bucketOf (keyAt store j))
+  pub size : length index ≡ linksSize
+  pub few : k ≤ entryLimit
+  pub stands : entryWidth * k ≤ length store
+  pub heads : (b : ℕ) → b < bucketCount → getD index b 0 ≡ lastIn store k b
+  pub forerunners : (j : ℕ) → j < k → getD index (bucketCount + j) 0 ≡ lastIn store j (bucketOf (keyAt store j))
 
 -- ---- The check
 
@@ -104,7 +108,7 @@ storeCheckOf (accepted entries) = Accepted
 -- What the check of a store answers, for every sheet of these attributes and nodes, and the index that it leaves.
 pub record StoreChecked (types : List ℕ) (attributes nodes : ℕ) (store : List ℕ) (kept : ℕ) (index : List ℕ) (r : StoreCheck) : Type 0 where
   pub answer : (s : Sheet) → s .attributes ≡ attributesIn types attributes → nodeCount s ≡ nodes → r ≡ storeCheckOf (checkStore s store kept)
-  pub size : length index ≡ 2048
+  pub size : length index ≡ linksSize
   pub linked : r ≡ Accepted → Linked store kept index
 
 -- ---- An entry more

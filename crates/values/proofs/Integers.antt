@@ -1,7 +1,7 @@
 -- Facts on integers that the code's sums, differences, tests and casts ask for. `mag z` is n both for n and for -(n + 1), and an
 -- Int is an integer with `mag` below 2^31.
 use mathlib.Core.Bool.{Bool, true, false, cond, true≢false}
-use mathlib.Core.Path.{_≡_, refl, ap, _∙_}
+use mathlib.Core.Path.{_≡_, refl, sym, ap, ap₂, _∙_}
 use Prim.Native.Nat.{ℕ, zero, suc, _+_, _-_, _^_, _≤_, _<_}
 use native.Mathlib.Nat.{zero-add, not-suc-le-zero}
 use native.Mathlib.Omega.{arith}
@@ -12,7 +12,17 @@ use mir.Syntax.{Width, w32, w64}
 use mir.Val.{SFits, hbits, ofZ, toZ}
 use mir.Facts.{toZ-pos, toZ-ofZ}
 use borrow.Author.Tests.{ltb-true, ltb-false, eqb-true, eqb-false, eq-eqb, ne-eqb, le-ltb}
-use Rattle.saiga.specs.Values.{lowest, highest, equalZ, unsigned}
+use Rattle.saiga.specs.Values.{lowest, highest, held, equalZ, unsigned}
+
+-- ---- Bits
+
+-- A number that fits is read back from its bits.
+pub read-back : (w : Width) (z : ℤ) → mag z < 2 ^ hbits w → toZ w (ofZ w z) ≡ z
+read-back w z h = toZ-ofZ (record { sfits = h })
+
+-- An Int's bits, read and widened to 64, are the Int.
+pub widened : (r z : ℤ) → mag r < 2 ^ 63 → mag z < 2 ^ 31 → r ≡ toZ w32 (ofZ w32 z) → toZ w64 (ofZ w64 r) ≡ z
+widened r z p q e = read-back w64 r p ∙ e ∙ read-back w32 z q
 
 -- ---- Sums and differences
 
@@ -34,40 +44,76 @@ mag-negated (pos zero) = omega arith
 mag-negated (pos (suc n)) = omega arith
 mag-negated (negsuc n) = omega arith
 
--- The sum and the difference of two Ints fit 64 bits.
-pub sum-fits : (y z : ℤ) → mag y < 2 ^ 31 → mag z < 2 ^ 31 → SFits w64 (y +ℤ z)
-sum-fits y z p q = record { sfits = omega (arith, mag-sum y z) }
+-- The sum and the difference of two Ints, each widened to 64 bits, fit those.
+module _ (y x : ℤ) (p : SFits w32 y) (q : SFits w32 x) (a b : ℤ) (r : mag a < 2 ^ 63) (s : mag b < 2 ^ 63) (first : a ≡ toZ w32 (ofZ w32 y)) (second : b ≡ toZ w32 (ofZ w32 x)) where
+  operands : (f : ℤ → ℤ → ℤ) → f (toZ w64 (ofZ w64 a)) (toZ w64 (ofZ w64 b)) ≡ f y x
+  operands f = ap₂ f (widened a y r (p .sfits) first) (widened b x s (q .sfits) second)
 
-pub difference-fits : (y z : ℤ) → mag y < 2 ^ 31 → mag z < 2 ^ 31 → SFits w64 (y -ℤ z)
-difference-fits y z p q = record { sfits = omega (arith, mag-sum y (negℤ z), mag-negated z) }
+  pub sum-fits : SFits w64 (toZ w64 (ofZ w64 a) +ℤ toZ w64 (ofZ w64 b))
+  sum-fits = rw (operands _+ℤ_) (record { sfits = omega (arith, mag-sum y x, p .sfits, q .sfits) })
+
+  pub sum-is : toZ w64 (ofZ w64 (toZ w64 (ofZ w64 a) +ℤ toZ w64 (ofZ w64 b))) ≡ y +ℤ x
+  sum-is = toZ-ofZ sum-fits ∙ operands _+ℤ_
+
+  pub difference-fits : SFits w64 (toZ w64 (ofZ w64 a) -ℤ toZ w64 (ofZ w64 b))
+  difference-fits = rw (operands _-ℤ_) (record { sfits = omega (arith, mag-sum y (negℤ x), mag-negated x, p .sfits, q .sfits) })
+
+  pub difference-is : toZ w64 (ofZ w64 (toZ w64 (ofZ w64 a) -ℤ toZ w64 (ofZ w64 b))) ≡ y -ℤ x
+  difference-is = toZ-ofZ difference-fits ∙ operands _-ℤ_
 
 -- -1 - z turns -(n + 1) into n and n into -(n + 1).
 turned : (n : ℕ) → negsuc 0 -ℤ pos n ≡ negsuc n
 turned zero = refl
 turned (suc n) = ap (λ k. negsuc (suc k)) (zero-add n)
 
-pub turned-negative : (z : ℤ) → ltZ z (pos 0) ≡ true → negsuc 0 -ℤ z ≡ pos (mag z)
+turned-negative : (z : ℤ) → ltZ z (pos 0) ≡ true → negsuc 0 -ℤ z ≡ pos (mag z)
 turned-negative (pos n) t = absurd (not-suc-le-zero (ltb-true n 0 t))
 turned-negative (negsuc n) t = rw (le-ltb (suc n) 1 (omega arith)) (ap pos (omega arith))
 
-pub not-negative : (z : ℤ) → ltZ z (pos 0) ≡ false → z ≡ pos (mag z)
+not-negative : (z : ℤ) → ltZ z (pos 0) ≡ false → z ≡ pos (mag z)
 not-negative (pos n) l = refl
 not-negative (negsuc n) l = absurd (true≢false l)
 
--- ---- Tests and casts
+-- The code's test of the bits of z, and the distance of a negative z from -1.
+module _ (w : Width) (z : ℤ) (fits : SFits w z) where
+  pub not-below : ltZ (toZ w (ofZ w z)) (pos 0) ≡ false → toZ w (ofZ w z) ≡ pos (mag z)
+  not-below t = toZ-ofZ fits ∙ not-negative z (rw (toZ-ofZ fits) at t)
 
--- A number that fits is read back from its bits.
-pub read-back : (w : Width) (z : ℤ) → mag z < 2 ^ hbits w → toZ w (ofZ w z) ≡ z
-read-back w z h = toZ-ofZ (record { sfits = h })
+  module _ (below : ltZ (toZ w (ofZ w z)) (pos 0) ≡ true) where
+    pub negative : ltZ z (pos 0) ≡ true
+    negative = rw (toZ-ofZ fits) at below
 
--- An Int's bits, read and widened to 64, are the Int.
-pub widened : (r z : ℤ) → mag r < 2 ^ 63 → mag z < 2 ^ 31 → r ≡ toZ w32 (ofZ w32 z) → toZ w64 (ofZ w64 r) ≡ z
-widened r z p q e = read-back w64 r p ∙ e ∙ read-back w32 z q
+    pub distance-fits : SFits w (negsuc 0 -ℤ toZ w (ofZ w z))
+    distance-fits = rw (toZ-ofZ fits, turned-negative z negative) (record { sfits = fits .sfits })
+
+    pub distance : toZ w (ofZ w (negsuc 0 -ℤ toZ w (ofZ w z))) ≡ pos (mag z)
+    distance = toZ-ofZ distance-fits ∙ rw (toZ-ofZ fits) (turned-negative z negative)
+
+-- ---- Tests
 
 -- What lies between the two ends of Int is an Int.
-pub within-fits : (z : ℤ) → ltZ z lowest ≡ false → ltZ highest z ≡ false → SFits w32 z
+within-fits : (z : ℤ) → ltZ z lowest ≡ false → ltZ highest z ≡ false → SFits w32 z
 within-fits (pos n) p q = record { sfits = omega (arith, ltb-false 2147483647 n q) }
 within-fits (negsuc n) p q = record { sfits = omega (arith, ltb-false 2147483647 n p) }
+
+-- The tests of the bits of z say at which end it is held, if at any.
+module _ (z : ℤ) (fits : SFits w64 z) where
+  pub held-lowest : ltZ (toZ w64 (ofZ w64 z)) lowest ≡ true → lowest ≡ held z
+  unfolding held
+  held-lowest t = rw (rw (toZ-ofZ fits) at t)
+
+  module _ (above : ltZ (toZ w64 (ofZ w64 z)) lowest ≡ false) where
+    pub held-highest : ltZ highest (toZ w64 (ofZ w64 z)) ≡ true → highest ≡ held z
+    unfolding held
+    held-highest t = rw (rw (toZ-ofZ fits) at above, rw (toZ-ofZ fits) at t)
+
+    module _ (below : ltZ highest (toZ w64 (ofZ w64 z)) ≡ false) where
+      pub held-fits : SFits w32 (toZ w64 (ofZ w64 z))
+      held-fits = within-fits _ above below
+
+      pub held-within : toZ w32 (ofZ w32 (toZ w64 (ofZ w64 z))) ≡ held z
+      unfolding held
+      held-within = toZ-ofZ held-fits ∙ rw (toZ-ofZ fits, rw (toZ-ofZ fits) at above, rw (toZ-ofZ fits) at below)
 
 -- Two Ints are equal where their bits are.
 pub equal-bits : (y z : ℤ) → mag y < 2 ^ 31 → mag z < 2 ^ 31 → eqb (ofZ w32 y) (ofZ w32 z) ≡ equalZ y z
@@ -92,3 +138,8 @@ pub unsigned-negative : (z : ℤ) → ltZ z (pos 0) ≡ true → unsigned z ≡ 
 unfolding unsigned
 unsigned-negative (pos n) t = absurd (not-suc-le-zero (ltb-true n 0 t))
 unsigned-negative (negsuc n) t = refl
+
+-- and those of another, which its test shows
+pub unsigned-other : (z : ℤ) → SFits w32 z → ltZ (toZ w32 (ofZ w32 z)) (pos 0) ≡ false → mag z ≡ unsigned z
+unfolding unsigned
+unsigned-other z fits t = rw (sym (toZ-ofZ fits) ∙ not-below w32 z fits t)

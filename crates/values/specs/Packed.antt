@@ -2,7 +2,7 @@
 use mathlib.Core.Bool.{cond}
 use Prim.Native.Nat.{ℕ, _-_, _/_, _%_}
 use lib.Dec.{eqb}
-use Rattle.saiga.specs.Values.{functionOf, words, signed}
+use Rattle.saiga.specs.Values.{functionOf, wordLimit, signed}
 use Rattle.saiga.specs.declared.Value.{Value}
 use Rattle.saiga.specs.declared.Value.the-variants.{Unit as unit, Bool as bool, Int as int, Node as node, Function as function, Holding as holding}
 use Rattle.saiga.specs.declared.Holding.{Holding}
@@ -25,6 +25,10 @@ valueOf t w =
     (cond (eqb t 3) (node (w % 65536))
     (cond (eqb t 4) (function (functionOf w)) (holding (holdingOf (t - 5) w))))))
 
--- The value that a word holds: a tag, `words` times, and a four-byte form.
+-- The value that a word holds: a tag, `wordLimit` times, and a four-byte form.
 unfoldable pub valueIn : ℕ → Value
-valueIn p = valueOf (p / words) (p % words)
+valueIn p = valueOf (p / wordLimit) (p % wordLimit)
+
+-- a packed value is below 16 tags
+abbrev pub packedLimit : ℕ
+packedLimit = 68719476736

@@ -3,14 +3,19 @@ pub mod packed;
 
 use saiga::Function;
 use saiga::Holding;
+use saiga::NULL;
 use saiga::Value;
 ghost use mathlib.Core.Path.{_≡_};
 ghost use mathlib.Core.Bool.{true};
-ghost use Prim.Native.Nat.{_+_, _%_, _≤_, _<_};
+ghost use Prim.Native.Nat.{_+_, _*_, _%_, _≤_, _<_};
 ghost use lib.IntN.{_+ℤ_, _-ℤ_};
 ghost use lib.ListN.{length, take, drop};
 ghost use lib.Seq.{sets};
+ghost use Rattle.values.specs.Layout.{resultAt, parameterAt, kindAt};
 ghost use Rattle.saiga.specs.Values.{baseOf, functionOf, held as heldOf, truth as truthOf, number as numberOf, nodeOf, applyFunction, applyHolding, apply as applied, ofBytes, toBytes, signed as signedOf, unsigned as unsignedOf, isWord, ofWord, toWord, typeCode, decimal as decimalOf};
+
+// Null in its four-byte form.
+const NULL_WORD: u32 = NULL as u32;
 
 fn long(z: i32) -> i64
     ensures { λ r. ⌜ r ≡ z ⌝ }
@@ -74,11 +79,11 @@ pub fn node_of(v: Value) -> u16
 {
     match v {
         Value::Node(n) => n,
-        Value::Unit => 65535,
-        Value::Bool(_) => 65535,
-        Value::Int(_) => 65535,
-        Value::Function(_) => 65535,
-        Value::Holding(_) => 65535,
+        Value::Unit => NULL,
+        Value::Bool(_) => NULL,
+        Value::Int(_) => NULL,
+        Value::Function(_) => NULL,
+        Value::Holding(_) => NULL,
     }
 }
 
@@ -209,6 +214,29 @@ pub fn put_four(s: &mut [u8], at: usize, n: u32)
     s[at + 3] = low(n / 256 / 256 / 256);
 }
 
+// The codes of attribute a's types: of its result and of its parameter.
+pub fn result_at(sheet: &[u8], a: usize) -> u8
+    requires { ⌜ 3 * a + 3 ≤ length (now sheet) ⌝ }
+    ensures { λ r. ⌜ r ≡ resultAt (now (sheet .entry)) a ⌝ }
+{
+    sheet[3 * a + 1]
+}
+
+pub fn parameter_at(sheet: &[u8], a: usize) -> u8
+    requires { ⌜ 3 * a + 3 ≤ length (now sheet) ⌝ }
+    ensures { λ r. ⌜ r ≡ parameterAt (now (sheet .entry)) a ⌝ }
+{
+    sheet[3 * a + 2]
+}
+
+// The kind of node n of a sheet with so many attributes.
+pub fn kind_at(sheet: &[u8], attributes: usize, n: usize) -> u8
+    requires { ⌜ 3 * attributes + 2 * n + 2 ≤ length (now sheet) ⌝ }
+    ensures { λ r. ⌜ r ≡ kindAt (now (sheet .entry)) attributes n ⌝ }
+{
+    sheet[3 * attributes + 2 * n + 1]
+}
+
 // Whether a number is the four-byte form of a value of the type with this code.
 pub fn is_word(nodes: usize, code: u8, w: u32) -> bool
     ensures { λ r. ⌜ r ≡ isWord nodes (baseOf code) w ⌝ }
@@ -217,7 +245,7 @@ pub fn is_word(nodes: usize, code: u8, w: u32) -> bool
         0 => w == 0,
         1 => w < 2,
         2 => true,
-        _ => (w as usize) < nodes || w == 65535,
+        _ => (w as usize) < nodes || w == NULL_WORD,
     }
 }
 

@@ -3,21 +3,47 @@ use saiga::Function;
 use saiga::Holding;
 use saiga::Value;
 ghost use mathlib.Core.Path.{_≡_};
-ghost use Prim.Native.Nat.{_/_, _%_, _<_};
-ghost use Rattle.saiga.specs.Values.{functionOf};
-ghost use Rattle.values.specs.Packed.{holdingOf, valueIn};
+ghost use Prim.Native.Nat.{_*_, _/_, _%_, _<_};
+ghost use Rattle.saiga.specs.Values.{functionOf, wordLimit};
+ghost use Rattle.values.specs.Packed.{holdingOf, valueIn, packedLimit};
+
+// A packed value is a tag, TAG times, and a four-byte form; it is below LIMIT.
+const TAG: u64 = 4294967296;
+
+const BOOL: u64 = TAG;
+
+const TRUE: u64 = BOOL + 1;
+
+const INT: u64 = 2 * TAG;
+
+const NODE: u64 = 3 * TAG;
+
+const FUNCTION: u64 = 4 * TAG;
+
+const HOLDING: u64 = 5 * TAG;
+
+// The tags of functions that hold their first argument count on from HOLDING.
+const EQUAL_INT: u64 = TAG;
+
+const EQUAL_NODE: u64 = 2 * TAG;
+
+const ADD: u64 = 3 * TAG;
+
+const SUBTRACT: u64 = 4 * TAG;
+
+pub const LIMIT: u64 = 68719476736;
 
 // A value in a word, and back.
 pub fn pack(v: Value) -> u64
-    ensures { λ r. ⌜ (valueIn r ≡ v) × (r < 68719476736) ⌝ }
+    ensures { λ r. ⌜ (valueIn r ≡ v) × (r < packedLimit) ⌝ }
 {
     match v {
         Value::Unit => 0,
-        Value::Bool(b) => if b { 4294967297 } else { 4294967296 },
-        Value::Int(z) => 8589934592 + crate::unsigned(z) as u64,
-        Value::Node(n) => 12884901888 + n as u64,
-        Value::Function(f) => 17179869184 + pack_function(f),
-        Value::Holding(h) => 21474836480 + pack_holding(h),
+        Value::Bool(b) => if b { TRUE } else { BOOL },
+        Value::Int(z) => INT + crate::unsigned(z) as u64,
+        Value::Node(n) => NODE + n as u64,
+        Value::Function(f) => FUNCTION + pack_function(f),
+        Value::Holding(h) => HOLDING + pack_holding(h),
     }
 }
 
@@ -35,22 +61,22 @@ fn pack_function(f: Function) -> u64
 }
 
 fn pack_holding(h: Holding) -> u64
-    ensures { λ r. ⌜ (holdingOf (r / 4294967296) (r % 4294967296) ≡ h) × (r < 21474836480) ⌝ }
+    ensures { λ r. ⌜ (holdingOf (r / wordLimit) (r % wordLimit) ≡ h) × (r < 5 * wordLimit) ⌝ }
 {
     match h {
         Holding::Le(x) => crate::unsigned(x) as u64,
-        Holding::EqualInt(x) => 4294967296 + crate::unsigned(x) as u64,
-        Holding::EqualNode(x) => 8589934592 + x as u64,
-        Holding::Add(x) => 12884901888 + crate::unsigned(x) as u64,
-        Holding::Subtract(x) => 17179869184 + crate::unsigned(x) as u64,
+        Holding::EqualInt(x) => EQUAL_INT + crate::unsigned(x) as u64,
+        Holding::EqualNode(x) => EQUAL_NODE + x as u64,
+        Holding::Add(x) => ADD + crate::unsigned(x) as u64,
+        Holding::Subtract(x) => SUBTRACT + crate::unsigned(x) as u64,
     }
 }
 
 pub fn unpack(p: u64) -> Value
     ensures { λ r. ⌜ r ≡ valueIn p ⌝ }
 {
-    let tag = p / 4294967296;
-    let w = (p % 4294967296) as u32;
+    let tag = p / TAG;
+    let w = (p % TAG) as u32;
     match tag {
         0 => Value::Unit,
         1 => Value::Bool(w == 1),

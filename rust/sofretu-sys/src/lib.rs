@@ -9,20 +9,21 @@
 
 pub use calls::Call;
 
+#[cfg(test)]
+mod any_numbers;
+
 /// Document 01's six fields of an answer: number, place, type, value, steps, kept.
 pub type Fields = [i64; 6];
 
 /// What a check finds: the number of the first stop that holds, or 0; and its place.
 pub type Found = (u32, u64);
 
-/// The length of a sheet's index.
-const INDEX: usize = 33_280;
-/// The length of a store's index.
-const LINKS: usize = 2_048;
-/// The length of a run's frames.
-const FRAMES: usize = 16_640;
-/// The length of a run's open forms.
-const FORMS: usize = 256;
+/// How many words a checked sheet has.
+const SHEET: usize = 33_282;
+/// How many words a checked store has.
+const STORE: usize = 2_048;
+/// How many words a run has.
+const RUN: usize = 16_896;
 
 /// What the check of a sheet leaves for the questions to it.
 #[derive(Clone)]
@@ -31,20 +32,19 @@ pub struct CheckedSheet {
     pub attributes: u64,
     /// How many nodes the sheet declares; 0 of a refused one.
     pub nodes: u64,
-    index: Box<[u32; INDEX]>,
+    words: Box<[u32; SHEET]>,
 }
 
 /// What the check of a store leaves for the questions that are lent it.
 #[derive(Clone)]
 pub struct CheckedStore {
-    links: Box<[u32; LINKS]>,
+    words: Box<[u32; STORE]>,
 }
 
 /// What a run works in.
 #[derive(Clone)]
 pub struct Run {
-    frames: Box<[u64; FRAMES]>,
-    forms: Box<[u32; FORMS]>,
+    words: Box<[u64; RUN]>,
 }
 
 impl Default for CheckedSheet {
@@ -52,23 +52,20 @@ impl Default for CheckedSheet {
         CheckedSheet {
             attributes: 0,
             nodes: 0,
-            index: zeros(),
+            words: zeros(),
         }
     }
 }
 
 impl Default for CheckedStore {
     fn default() -> CheckedStore {
-        CheckedStore { links: zeros() }
+        CheckedStore { words: zeros() }
     }
 }
 
 impl Default for Run {
     fn default() -> Run {
-        Run {
-            frames: zeros(),
-            forms: zeros(),
-        }
+        Run { words: zeros() }
     }
 }
 
@@ -101,47 +98,42 @@ extern "C" {
         store_len: usize,
         kept: u64,
         budget: u64,
-        index: *mut [u32; INDEX],
-        links: *mut [u32; LINKS],
-        frames: *mut [u64; FRAMES],
-        forms: *mut [u32; FORMS],
+        checked_sheet: *mut [u32; SHEET],
+        checked_store: *mut [u32; STORE],
+        run: *mut [u64; RUN],
         answer: *mut [i64; 6],
     );
 
     fn sofretu_check_sheet(
         sheet: *const u8,
         sheet_len: usize,
-        index: *mut [u32; INDEX],
+        checked_sheet: *mut [u32; SHEET],
         found: *mut [u64; 3],
     ) -> u32;
 
     fn sofretu_check_store(
         sheet: *const u8,
         sheet_len: usize,
-        attributes: u64,
-        nodes: u64,
+        checked_sheet: *const [u32; SHEET],
         store: *const u8,
         store_len: usize,
         kept: u64,
-        links: *mut [u32; LINKS],
+        checked_store: *mut [u32; STORE],
         place: *mut u64,
     ) -> u32;
 
     fn sofretu_ask_checked(
         sheet: *const u8,
         sheet_len: usize,
-        attributes: u64,
-        nodes: u64,
-        index: *const [u32; INDEX],
+        checked_sheet: *const [u32; SHEET],
         question: *const u8,
         question_len: usize,
         store: *mut u8,
         store_len: usize,
         kept: u64,
         budget: u64,
-        links: *mut [u32; LINKS],
-        frames: *mut [u64; FRAMES],
-        forms: *mut [u32; FORMS],
+        checked_store: *mut [u32; STORE],
+        run: *mut [u64; RUN],
         answer: *mut [i64; 6],
     );
 
@@ -203,10 +195,9 @@ pub fn ask_in(
             call.store.len(),
             call.kept,
             call.budget,
-            &mut *sheet.index,
-            &mut *store.links,
-            &mut *run.frames,
-            &mut *run.forms,
+            &mut *sheet.words,
+            &mut *store.words,
+            &mut *run.words,
             &mut answer,
         );
     }
@@ -217,9 +208,9 @@ pub fn ask_in(
 #[inline]
 pub fn check_sheet(sheet: &[u8], checked: &mut CheckedSheet) -> Found {
     let mut found = [0; 3];
-    // SAFETY: `sheet` is borrowed for reading, the index and `found` for writing. Nothing else is required.
+    // SAFETY: `sheet` is borrowed for reading, the checked sheet and `found` for writing. Nothing else is required.
     let number = unsafe {
-        sofretu_check_sheet(sheet.as_ptr(), sheet.len(), &mut *checked.index, &mut found)
+        sofretu_check_sheet(sheet.as_ptr(), sheet.len(), &mut *checked.words, &mut found)
     };
     let [place, attributes, nodes] = found;
     checked.attributes = attributes;
@@ -228,7 +219,7 @@ pub fn check_sheet(sheet: &[u8], checked: &mut CheckedSheet) -> Found {
 }
 
 /// The first of stops 9 and 10 that holds of a store, for a sheet as [`check_sheet`] left it when it accepted these bytes; the C header says
-/// what other numbers of attributes and nodes mean.
+/// what any other one means.
 #[inline]
 pub fn check_store(
     sheet: &[u8],
@@ -238,17 +229,16 @@ pub fn check_store(
     checked: &mut CheckedStore,
 ) -> Found {
     let mut place = 0;
-    // SAFETY: the bytes are borrowed for reading, the links and `place` for writing. Nothing else is required.
+    // SAFETY: the bytes are borrowed for reading, the checked store and `place` for writing. Nothing else is required.
     let number = unsafe {
         sofretu_check_store(
             sheet.as_ptr(),
             sheet.len(),
-            checked_sheet.attributes,
-            checked_sheet.nodes,
+            &*checked_sheet.words,
             store.as_ptr(),
             store.len(),
             kept,
-            &mut *checked.links,
+            &mut *checked.words,
             &mut place,
         )
     };
@@ -269,24 +259,21 @@ pub unsafe fn ask_checked(
     run: &mut Run,
 ) -> Fields {
     let mut answer = [0; 6];
-    // SAFETY: all is borrowed, for reading or writing as the call has it. What is required of the two indices is the caller's to
+    // SAFETY: all is borrowed, for reading or writing as the call has it. What is required of the two checked ones is the caller's to
     // see to.
     unsafe {
         sofretu_ask_checked(
             call.sheet.as_ptr(),
             call.sheet.len(),
-            sheet.attributes,
-            sheet.nodes,
-            &*sheet.index,
+            &*sheet.words,
             call.question.as_ptr(),
             call.question.len(),
             call.store.as_mut_ptr(),
             call.store.len(),
             call.kept,
             call.budget,
-            &mut *store.links,
-            &mut *run.frames,
-            &mut *run.forms,
+            &mut *store.words,
+            &mut *run.words,
             &mut answer,
         );
     }

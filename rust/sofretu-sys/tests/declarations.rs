@@ -67,7 +67,48 @@ fn calls(signatures: Vec<&str>, words: impl Fn(&str) -> Vec<String>) -> Calls {
         .collect()
 }
 
+/// The constants of the Rattle crates that the calls' arrays are made of, as they are written there.
+struct Sizes(BTreeMap<String, String>);
+
+impl Sizes {
+    fn read() -> Sizes {
+        let files = [
+            "crates/saiga/src/limits.rt",
+            "crates/sheets/src/lookup.rt",
+            "crates/stores/src/lib.rt",
+            "crates/engine/src/lib.rt",
+        ];
+        let mut sizes = BTreeMap::new();
+        for file in files {
+            for declared in between(&text(file), "const ", ";") {
+                if let Some((name, value)) = declared.split_once(": usize = ") {
+                    sizes.insert(name.into(), value.into());
+                }
+            }
+        }
+        Sizes(sizes)
+    }
+
+    /// A number, a name, or sums and products of these; sums in brackets.
+    fn value(&self, text: &str) -> usize {
+        if let Some((inner, rest)) = text.strip_prefix('(').and_then(|t| t.split_once(") * ")) {
+            return self.value(inner) * self.value(rest);
+        }
+        if let Some((left, right)) = text.split_once(" + ") {
+            return self.value(left) + self.value(right);
+        }
+        if let Some((left, right)) = text.split_once(" * ") {
+            return self.value(left) * self.value(right);
+        }
+        match self.0.get(text) {
+            Some(value) => self.value(value),
+            None => text.parse().unwrap_or_else(|_| panic!("{text} is no size")),
+        }
+    }
+}
+
 fn rattle() -> Calls {
+    let sizes = Sizes::read();
     // A lifetime is nothing that is passed.
     let text = text("crates/sofretu/src/lib.rt")
         .replace("<'a>", "")
@@ -84,7 +125,7 @@ fn rattle() -> Calls {
             None => vec![format!("{pointer} {inner}")],
             Some(inner) => match inner.split_once("; ") {
                 Some((element, length)) => {
-                    vec![array(pointer, element, &length.replace('_', ""))]
+                    vec![array(pointer, element, &sizes.value(length).to_string())]
                 }
                 None => vec![format!("{pointer} {inner}"), "u64".into()],
             },
@@ -127,6 +168,16 @@ fn c() -> Calls {
             .replace("int", "i")
             .replace("_t", "")
     };
+    // A struct of one array is passed as the array is.
+    let structs: BTreeMap<&str, (String, String)> = between(&text, "typedef struct {", ";\n\n")
+        .into_iter()
+        .map(|declared| {
+            let (array, name) = declared.split_once(";\n} ").expect("one array and a name");
+            let (typ, length) = array.trim().split_once(" words[").expect("its type");
+            let length = length.strip_suffix(']').expect("its length");
+            (name, (typed(typ), number(length, &constants)))
+        })
+        .collect();
     text.split(';')
         .filter_map(|declaration| {
             let (front, rest) = declaration.split_once('(')?;
@@ -141,6 +192,9 @@ fn c() -> Calls {
                         None => ("*mut", part.as_str()),
                     };
                     let (typ, name) = part.split_once(' ').expect("a type and a name");
+                    if let Some((element, length)) = structs.get(typ) {
+                        return array(pointer, element, length);
+                    }
                     let typ = typed(typ);
                     match name.split_once('[') {
                         Some((_, length)) => {
@@ -184,7 +238,7 @@ fn rust_and_c_declare_the_same_calls() {
     let (parameters, result) = &rust["sofretu_check_sheet"];
     assert_eq!(
         *parameters,
-        ["*const u8", "u64", "*mut [u32; 33280]", "*mut [u64; 3]"]
+        ["*const u8", "u64", "*mut [u32; 33282]", "*mut [u64; 3]"]
     );
     assert_eq!(result, "u32");
 }

@@ -1,10 +1,9 @@
 -- `engine::take_if` meets its contract. The first branch is not measured where it is taken: its width is there all the same.
-use Rattle.engine.proofs.HeadsRead.{skip-inside}
 use Rattle.engine.proofs.Widths.{width-of}
+use Rattle.engine.proofs.HeadsRead.{skip-inside}
+use Rattle.engine.proofs.RunMemory.{goes-on-written}
 use Rattle.engine.specs.Steps.{takeIf}
-use lib.ListN.{length-set}
 use native.Mathlib.Omega.{arith}
-use mathlib.Core.Path.{refl}
 use borrow.Author.Needs.{needs}
 use Rattle.engine.proofs.take_if.Statement.{statement}
 use Rattle.engine.proofs.take_if.Tie as tie
@@ -15,11 +14,11 @@ truth-requires c κs = search needs
 sub-top : tie.Need-sub-top
 sub-top c = search needs
 
-mul-frames : tie.Need-mul-frames
-mul-frames c = search needs
+mul-memory : tie.Need-mul-memory
+mul-memory c = search needs
 
-slice-write-frames : tie.Need-slice-write-frames
-slice-write-frames c = search needs
+slice-write-memory : tie.Need-slice-write-memory
+slice-write-memory c = search needs
 
 add-t7 : tie.Need-add-t7
 add-t7 c = search needs
@@ -32,14 +31,12 @@ unfolding takeIf
 returns c =
     let at-truth = c .before .before .before in
     let entry = at-truth .before .before .before in
-    let w = width-of (entry .args .e .now) in (
-      record {
-        skip = w .0;
-        width = w .1;
-        after = λ store forms. rw (← (at-truth .truth .ensures), c .before .before .if1 .taken);
-      },
-      simp length-set,
-    )
+    let w = width-of (entry .args .e .now) in
+    record {
+      skip = w .0;
+      width = w .1;
+      after = λ store. rw (← (at-truth .truth .ensures), c .before .before .if1 .taken) (goes-on-written _ store _ _ _ (omega arith));
+    }
 
 width-requires : tie.Need-width-requires
 width-requires c κs = search needs
@@ -60,14 +57,12 @@ add-t12 c = search needs
 returns-2 : tie.Need-returns-2
 unfolding takeIf
 returns-2 c =
-    let at-width = c .before .before .before in (
-      record {
-        skip = at-width .width .result;
-        width = at-width .width .ensures;
-        after = λ store forms. rw (← (at-width .before .before .truth .ensures), at-width .before .if1 .left);
-      },
-      refl,
-    )
+    let at-width = c .before .before .before in
+    record {
+      skip = at-width .width .result;
+      width = at-width .width .ensures;
+      after = λ store. rw (← (at-width .before .before .truth .ensures), at-width .before .if1 .left);
+    }
 
 pub take-if-spec : {M : Type 1} → statement M
 take-if-spec =
@@ -75,8 +70,8 @@ take-if-spec =
     (tie.spec
     truth-requires
     sub-top
-    mul-frames
-    slice-write-frames
+    mul-memory
+    slice-write-memory
     add-t7
     same-length
     returns

@@ -1,5 +1,6 @@
 -- `engine::take_node` meets its contract: the word that is written holds what `pack` gives.
-use mathlib.Core.Path.{refl}
+use Rattle.engine.proofs.RunMemory.{frame-written}
+use native.Mathlib.Omega.{arith}
 use borrow.Author.Needs.{needs}
 use Rattle.engine.proofs.take_node.Statement.{statement}
 use Rattle.engine.proofs.take_node.Tie as tie
@@ -10,23 +11,14 @@ sub-top c = search needs
 pack-requires : tie.Need-pack-requires
 pack-requires c κs = search needs
 
-mul-frames : tie.Need-mul-frames
-mul-frames c = search needs
+on-parameter-requires : tie.Need-on-parameter-requires
+on-parameter-requires c κs = search needs
 
-add-frames : tie.Need-add-frames
-add-frames c = search needs
+mul-memory : tie.Need-mul-memory
+mul-memory c = search needs
 
-mul-frames-2 : tie.Need-mul-frames-2
-mul-frames-2 c = search needs
-
-add-frames-2 : tie.Need-add-frames-2
-add-frames-2 c = search needs
-
-mul-frames-3 : tie.Need-mul-frames-3
-mul-frames-3 c = search needs
-
-slice-write-frames : tie.Need-slice-write-frames
-slice-write-frames c = search needs
+slice-write-memory : tie.Need-slice-write-memory
+slice-write-memory c = search needs
 
 turned-requires : tie.Need-turned-requires
 turned-requires c κs = search needs
@@ -35,7 +27,7 @@ same-length : tie.Need-same-length
 same-length c = search needs
 
 returns : tie.Need-returns
-returns c = (c .turned .ensures, record { packed = c .before .pack .result; packs = c .before .pack .ensures; written = refl })
+returns c = (c .turned .ensures, record { packed = c .before .before .pack .result; packs = c .before .before .pack .ensures; written = λ store. rw (c .before .on-parameter .ensures) (frame-written store _ _ _ (omega arith)) })
 
 pub take-node-spec : {M : Type 1} → statement M
 take-node-spec =
@@ -43,12 +35,9 @@ take-node-spec =
     (tie.spec
     sub-top
     pack-requires
-    mul-frames
-    add-frames
-    mul-frames-2
-    add-frames-2
-    mul-frames-3
-    slice-write-frames
+    on-parameter-requires
+    mul-memory
+    slice-write-memory
     turned-requires
     same-length
     returns)

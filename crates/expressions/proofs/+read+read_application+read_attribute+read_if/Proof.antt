@@ -15,7 +15,7 @@ use Rattle.saiga.specs.Expressions.{headOf}
 use Rattle.saiga.specs.Values.{intT}
 use Rattle.expressions.proofs.Composites.{Taken, taken, if-stops, if-stops-then, if-stops-else, if-reads, application-stops, application-stops-argument, application-reads, attribute-short, attribute-undeclared, attribute-stops, attribute-stops-parameter, attribute-reads, read-after, read-int, read-no-head, read-nothing}
 use Rattle.expressions.proofs.Literals.{unit-reads, operand-short, this-reads, this-refused, parameter-reads, parameter-refused}
-use Rattle.expressions.proofs.TypeNumbers.{attributes-count}
+use Rattle.values.proofs.Declared.{attributes-count}
 use Rattle.expressions.proofs.read.Kinds.{ps}
 use Rattle.expressions.proofs.read.Reads as read
 use Rattle.expressions.proofs.+read+read_application+read_attribute+read_if.Lts-read as read-lts

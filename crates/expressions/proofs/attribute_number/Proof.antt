@@ -9,26 +9,14 @@ use Rattle.expressions.proofs.attribute_number.Tie as tie
 returns : tie.Need-returns
 returns c = λ m N X h p q. rw (attribute-number _ m _ N X h p q, ne-eqb 4 _ λ k. c .if1 .taken (sym k))
 
-mul-base-number : tie.Need-mul-base-number
-mul-base-number c = search needs
-
-add-base-number : tie.Need-add-base-number
-add-base-number c = search needs
-
-shared-slice-read-base-number : tie.Need-shared-slice-read-base-number
-shared-slice-read-base-number c = search needs
+parameter-at-requires : tie.Need-parameter-at-requires
+parameter-at-requires c κs = search needs
 
 base-number-requires : tie.Need-base-number-requires
 base-number-requires c κs = search needs
 
-mul-base-number-2 : tie.Need-mul-base-number-2
-mul-base-number-2 c = search needs
-
-add-base-number-2 : tie.Need-add-base-number-2
-add-base-number-2 c = search needs
-
-shared-slice-read-base-number-2 : tie.Need-shared-slice-read-base-number-2
-shared-slice-read-base-number-2 c = search needs
+result-at-requires : tie.Need-result-at-requires
+result-at-requires c κs = search needs
 
 base-number-requires-2 : tie.Need-base-number-requires-2
 base-number-requires-2 c κs = search needs
@@ -36,29 +24,19 @@ base-number-requires-2 c κs = search needs
 returns-2 : tie.Need-returns-2
 returns-2 c =
     let at-base-number = c .before .before .before in
-    λ m N X h p q. rw (
-      attribute-number _ m _ N X h p q,
-      eq-eqb 4 _ (sym (at-base-number .before .before .if1 .left)),
-      ← at-base-number .base-number .ensures,
-      ← c .base-number2 .ensures,
-      eq-eqb _ _ (sym (c .before .before .if2 .taken)),
-    )
+    λ m N X h p q. rw (attribute-number _ m _ N X h p q, eq-eqb 4 _ (sym (at-base-number .before .before .if1 .left)), ← at-base-number .before .parameter-at .ensures, ← at-base-number .base-number .ensures, ← c .before .result-at .ensures, ← c .base-number2 .ensures, eq-eqb _ _ (sym (c .before .before .if2 .taken)))
 
 returns-3 : tie.Need-returns-3
-returns-3 c = λ m N X h p q. rw (attribute-number _ m _ N X h p q, eq-eqb 4 _ (sym (c .before .before .before .if1 .left)), ← c .before .base-number .ensures, ne-eqb _ _ λ k. c .if2 .left (sym k))
+returns-3 c = λ m N X h p q. rw (attribute-number _ m _ N X h p q, eq-eqb 4 _ (sym (c .before .before .before .if1 .left)), ← c .before .before .parameter-at .ensures, ← c .before .base-number .ensures, ne-eqb _ _ λ k. c .if2 .left (sym k))
 
 pub attribute-number-spec : {M : Type 1} → statement M
 attribute-number-spec =
     tie.close
     (tie.spec
     returns
-    mul-base-number
-    add-base-number
-    shared-slice-read-base-number
+    parameter-at-requires
     base-number-requires
-    mul-base-number-2
-    add-base-number-2
-    shared-slice-read-base-number-2
+    result-at-requires
     base-number-requires-2
     returns-2
     returns-3)

@@ -1,8 +1,8 @@
 -- `runs::give_if` meets its contract, by the limits. The branch is measured only where it is passed over: its width is there all the same.
-use Rattle.runs.proofs.Limits.{within-spent, within-waits, within-goes}
-use Rattle.engine.proofs.Widths.{width-of}
-use Rattle.attributes.specs.Due.{steppedOf}
 use mathlib.Core.Path.{refl, _∙_}
+use Rattle.engine.specs.CodeSteps.{steppedOf}
+use Rattle.engine.proofs.Widths.{width-of}
+use Rattle.runs.proofs.Limits.{within-spent, within-waits, within-goes}
 use borrow.Author.Needs.{needs}
 use Rattle.runs.proofs.give_if.Statement.{statement}
 use Rattle.runs.proofs.give_if.Tie as tie
@@ -10,19 +10,19 @@ use Rattle.runs.proofs.give_if.Tie as tie
 returns : tie.Need-returns
 unfolding steppedOf
 returns c =
-    let at-shared-slice-known = c .before .before .before in
-    let entry = at-shared-slice-known .before in
+    let at-slice-known = c .before .before .before in
+    let entry = at-slice-known .before .before in
     let (skip, width) = width-of (entry .args .e .now) in
-    (record { skip = skip; width = width; after = λ store forms. within-spent _ _ (entry .args .m) _ (c .if1 .taken) }, (λ store forms. refl, refl))
+    (record { skip = skip; width = width; after = λ store. within-spent _ _ (entry .args .m) _ (c .if1 .taken) }, λ store. refl)
 
 returns-2 : tie.Need-returns-2
 unfolding steppedOf
 returns-2 c =
-    let at-if1 = c .before .before in
-    let at-shared-slice-known = at-if1 .before .before .before in
-    let entry = at-shared-slice-known .before in
+    let at-if1 = c .before .before .before in
+    let at-slice-known = at-if1 .before .before .before in
+    let entry = at-slice-known .before .before in
     let (skip, width) = width-of (entry .args .e .now) in
-    (record { skip = skip; width = width; after = λ store forms. within-waits _ _ (entry .args .m) _ (at-if1 .if1 .left) (c .if2 .taken) }, (λ store forms. refl, refl))
+    (record { skip = skip; width = width; after = λ store. within-waits _ _ (entry .args .m) _ (at-if1 .if1 .left) (c .if2 .taken) }, λ store. refl)
 
 take-if-requires : tie.Need-take-if-requires
 take-if-requires c κs = search needs
@@ -35,10 +35,10 @@ unfolding steppedOf
 returns-3 c =
     let at-take-if = c .before .before in
     let at-if2 = at-take-if .before .before in
-    let at-if1 = at-if2 .before .before in
-    let at-shared-slice-known = at-if1 .before .before .before in
-    let entry = at-shared-slice-known .before in
-    (record { skip = at-take-if .take-if .ensures .0 .skip; width = at-take-if .take-if .ensures .0 .width; after = λ store forms. at-take-if .take-if .ensures .0 .after store forms ∙ within-goes _ _ (entry .args .m) _ (at-if1 .if1 .left) (at-if2 .if2 .left) }, (λ store forms. tt, at-take-if .take-if .ensures .1))
+    let at-if1 = at-if2 .before .before .before in
+    let at-slice-known = at-if1 .before .before .before in
+    let entry = at-slice-known .before .before in
+    (record { skip = at-take-if .take-if .ensures .skip; width = at-take-if .take-if .ensures .width; after = λ store. at-take-if .take-if .ensures .after store ∙ within-goes _ _ (entry .args .m) _ (at-if1 .if1 .left) (at-if2 .if2 .left) }, λ store. tt)
 
 pub give-if-spec : {M : Type 1} → statement M
 give-if-spec = tie.close (tie.spec returns returns-2 take-if-requires same-length returns-3)

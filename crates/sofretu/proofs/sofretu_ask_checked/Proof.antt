@@ -1,6 +1,6 @@
 -- The answer of `calls::ask_checked` is laid out as it is.
-use mathlib.Core.Path.{_∙_, ap}
 use Rattle.sofretu.specs.Six.{six}
+use mathlib.Core.Path.{_∙_, ap}
 use borrow.Author.Needs.{needs}
 use Rattle.sofretu.proofs.sofretu_ask_checked.Statement.{statement}
 use Rattle.sofretu.proofs.sofretu_ask_checked.Tie as tie

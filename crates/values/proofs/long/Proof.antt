@@ -3,11 +3,5 @@ use mir.Facts.{toZ-ofZ, sfits-widen}
 use Rattle.values.proofs.long.Statement.{statement}
 use Rattle.values.proofs.long.Tie as tie
 
-cast-result : tie.Need-cast-result
-cast-result c = rw (toZ-ofZ (c .fits .z)) (sfits-widen tt (c .fits .z))
-
-returns : tie.Need-returns
-returns c = rw (toZ-ofZ (c .fits .z)) (toZ-ofZ (sfits-widen tt (c .fits .z)))
-
 pub long-spec : {M : Type 1} → statement M
-long-spec = tie.close (tie.spec cast-result returns)
+long-spec = tie.close (tie.spec (λ c. rw (toZ-ofZ (c .fits .z)) (sfits-widen tt (c .fits .z))) (λ c. rw (toZ-ofZ (c .fits .z)) (toZ-ofZ (sfits-widen tt (c .fits .z)))))

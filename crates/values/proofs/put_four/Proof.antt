@@ -1,74 +1,25 @@
 -- `values::put_four` meets its contract: `sets` at a list of four bytes computes to the four stores.
-use mathlib.Core.Path.{_≡_}
-use Prim.Native.Nat.{suc, _+_}
 use native.Mathlib.Omega.{arith}
-use native.Mathlib.Numerals.{add-one}
 use lib.ListN.{length-set}
 use borrow.Author.Needs.{needs}
-use Rattle.saiga.specs.Values.{toBytes}
+use Rattle.values.proofs.Bytes.{four-written}
 use Rattle.values.proofs.put_four.Statement.{statement}
 use Rattle.values.proofs.put_four.Tie as tie
-
-low-requires : tie.Need-low-requires
-low-requires c κs = search needs
-
-slice-write-s : tie.Need-slice-write-s
-slice-write-s c = search needs
-
-low-requires-2 : tie.Need-low-requires-2
-low-requires-2 c κs = search needs
-
-add-s : tie.Need-add-s
-add-s c = search needs
-
-slice-write-s-2 : tie.Need-slice-write-s-2
-slice-write-s-2 c = simp length-set (omega arith)
-
-low-requires-3 : tie.Need-low-requires-3
-low-requires-3 c κs = search needs
-
-add-s-2 : tie.Need-add-s-2
-add-s-2 c = search needs
-
-slice-write-s-3 : tie.Need-slice-write-s-3
-slice-write-s-3 c = simp length-set (omega arith)
-
-low-requires-4 : tie.Need-low-requires-4
-low-requires-4 c κs = search needs
-
-add-s-3 : tie.Need-add-s-3
-add-s-3 c = search needs
-
-slice-write-s-4 : tie.Need-slice-write-s-4
-slice-write-s-4 c = simp length-set (omega arith)
-
-same-length : tie.Need-same-length
-same-length c = search needs
-
-returns : tie.Need-returns
-unfolding toBytes
-returns c =
-    let at-low = c .before .before .before in
-    let entry = at-low .before .before in
-    let at = entry .args .at in
-    let second : at + 2 ≡ suc (suc at) = omega arith in
-    let third : at + 3 ≡ suc (suc (suc at)) = omega arith in
-    rw (at-low .low .ensures, c .before .before .low2 .ensures, c .before .low3 .ensures, c .low4 .ensures, add-one, second, third)
 
 pub put-four-spec : {M : Type 1} → statement M
 put-four-spec =
     tie.close
     (tie.spec
-    low-requires
-    slice-write-s
-    low-requires-2
-    add-s
-    slice-write-s-2
-    low-requires-3
-    add-s-2
-    slice-write-s-3
-    low-requires-4
-    add-s-3
-    slice-write-s-4
-    same-length
-    returns)
+    (λ c κs. search needs)
+    (λ c. search needs)
+    (λ c κs. search needs)
+    (λ c. search needs)
+    (λ c. simp length-set (omega arith))
+    (λ c κs. search needs)
+    (λ c. search needs)
+    (λ c. simp length-set (omega arith))
+    (λ c κs. search needs)
+    (λ c. search needs)
+    (λ c. simp length-set (omega arith))
+    (λ c. search needs)
+    (λ c. search four-written))

@@ -10,27 +10,17 @@ use Rattle.values.proofs.Integers.{top-half}
 use Rattle.values.proofs.signed.Statement.{statement}
 use Rattle.values.proofs.signed.Tie as tie
 
-cast-result : tie.Need-cast-result
-cast-result c = search needs
-
-sub-result : tie.Need-sub-result
-sub-result c = search needs
-
-cast-result-2 : tie.Need-cast-result-2
-cast-result-2 c = search needs
-
 sub-result-2 : tie.Need-sub-result-2
 sub-result-2 c = rw (top-half w32 (4294967295 - c .before .args .w) (let high = c .if1 .left in omega arith)) (record { sfits = omega arith })
 
-returns : tie.Need-returns
-unfolding signed
-returns c = rw (toZ-pos w32 (c .if1 .taken), lt-ltb _ _ (c .if1 .taken))
-
-returns-2 : tie.Need-returns-2
-unfolding signed
-returns-2 c =
-    rw (toZ-ofZ (sub-result-2 c), top-half w32 (4294967295 - c .before .args .w) (let high = c .if1 .left in omega arith), le-ltb _ _ (c .if1 .left))
-
 pub signed-spec : {M : Type 1} → statement M
+unfolding signed
 signed-spec =
-    tie.close (tie.spec cast-result sub-result cast-result-2 sub-result-2 returns returns-2)
+    tie.close
+    (tie.spec
+    (λ c. search needs)
+    (λ c. search needs)
+    (λ c. search needs)
+    sub-result-2
+    (λ c. rw (toZ-pos w32 (c .if1 .taken), lt-ltb _ _ (c .if1 .taken)))
+    (λ c. rw (toZ-ofZ (sub-result-2 c), top-half w32 (4294967295 - c .before .args .w) (let high = c .if1 .left in omega arith), le-ltb _ _ (c .if1 .left))))

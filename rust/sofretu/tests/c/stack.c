@@ -30,10 +30,9 @@ static const struct {
     {ifs, sizeof ifs}, {applications, sizeof applications}, {attributes, sizeof attributes}, {around, sizeof around}};
 
 static uint8_t store[SOFRETU_MOST_ENTRIES * SOFRETU_ENTRY];
-static uint32_t sheet_index[SOFRETU_INDEX];
-static uint32_t links[SOFRETU_LINKS];
-static uint64_t frames[SOFRETU_FRAMES];
-static uint32_t forms[SOFRETU_FORMS];
+static sofretu_checked_sheet checked_sheet;
+static sofretu_checked_store checked_store;
+static sofretu_run run;
 static uint64_t found[3];
 static uint64_t place;
 static int64_t answer[SOFRETU_FIELDS];
@@ -49,10 +48,10 @@ static void *ask(void *unused) {
 }
 
 static void *ask_in(void *unused) {
-    sofretu_ask_in(deep, sizeof deep, around, sizeof around, store, sizeof store, 0, 100, sheet_index, links, frames, forms, answer);
+    sofretu_ask_in(deep, sizeof deep, around, sizeof around, store, sizeof store, 0, 100, &checked_sheet, &checked_store, &run, answer);
     FOR_EACH_QUESTION {
-        sofretu_ask_in(circle, sizeof circle, questions[q].bytes, questions[q].len, store, sizeof store, 0, 100, sheet_index,
-                       links, frames, forms, answer);
+        sofretu_ask_in(circle, sizeof circle, questions[q].bytes, questions[q].len, store, sizeof store, 0, 100, &checked_sheet,
+                       &checked_store, &run, answer);
     }
     return unused;
 }
@@ -67,20 +66,20 @@ static void *check(void *unused) {
 
 /* The sheet that is accepted comes last, for the two calls below. */
 static void *check_sheet(void *unused) {
-    sofretu_check_sheet(deep, sizeof deep, sheet_index, found);
-    sofretu_check_sheet(circle, sizeof circle, sheet_index, found);
+    sofretu_check_sheet(deep, sizeof deep, &checked_sheet, found);
+    sofretu_check_sheet(circle, sizeof circle, &checked_sheet, found);
     return unused;
 }
 
 static void *check_store(void *unused) {
-    sofretu_check_store(circle, sizeof circle, found[1], found[2], store, sizeof store, 0, links, &place);
+    sofretu_check_store(circle, sizeof circle, &checked_sheet, store, sizeof store, 0, &checked_store, &place);
     return unused;
 }
 
 static void *ask_checked(void *unused) {
     FOR_EACH_QUESTION {
-        sofretu_ask_checked(circle, sizeof circle, found[1], found[2], sheet_index, questions[q].bytes, questions[q].len, store,
-                            sizeof store, 0, 100, links, frames, forms, answer);
+        sofretu_ask_checked(circle, sizeof circle, &checked_sheet, questions[q].bytes, questions[q].len, store,
+                            sizeof store, 0, 100, &checked_store, &run, answer);
     }
     return unused;
 }

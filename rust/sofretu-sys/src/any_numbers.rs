@@ -2,7 +2,7 @@
 
 use std::collections::HashSet;
 
-use sofretu_sys::{check_store, CheckedSheet, CheckedStore};
+use crate::{check_store, CheckedSheet, CheckedStore, SHEET};
 
 /// Whether four bytes are a value of the type with this code, where so many nodes are declared.
 fn is_word(code: u8, nodes: u64, word: u32) -> bool {
@@ -76,14 +76,15 @@ fn any_numbers_are_answered_as_the_header_says() {
         if numbers.below(20) == 0 {
             store.push(0);
         }
-        let any = [0, 1, 2, 3, 33, 1_025, u64::MAX / 3, u64::MAX];
+        let any = [0, 1, 2, 3, 33, 1_025, u32::MAX / 3, u32::MAX];
         let attributes = any[numbers.below(8) as usize];
         let nodes = any[numbers.below(8) as usize];
-        checked_sheet.attributes = attributes;
-        checked_sheet.nodes = nodes;
+        // The last two words are the numbers of attributes and nodes.
+        checked_sheet.words[SHEET - 2] = attributes;
+        checked_sheet.words[SHEET - 1] = nodes;
         let kept = numbers.below(entries + 2);
         let found = check_store(&sheet, &checked_sheet, &store, kept, &mut checked);
-        let expected = said(&sheet, attributes, nodes, &store, kept);
+        let expected = said(&sheet, attributes.into(), nodes.into(), &store, kept);
         assert_eq!(
             found, expected,
             "{sheet:?} {attributes} {nodes} {store:?} {kept}"

@@ -1,0 +1,93 @@
+-- The array of a run: what is read and written among its frames and among its forms.
+use mathlib.Core.List.{List}
+use mathlib.Core.Path.{_≡_, refl, sym, ap, _∙_}
+use Prim.Native.Nat.{ℕ, _+_, _*_, _-_, _≤_, _<_}
+use native.Mathlib.Omega.{arith}
+use lib.ListN.{length, take, drop, getD, set, length-take, length-drop}
+use lib.Seq.{take-set-le, drop-set-lt, take-set-lt, drop-set-add, getD-take, getD-drop}
+use Rattle.engine.specs.Decode.{frameLimit, formsSize, runSize, wordsIn, formsIn}
+use Rattle.engine.specs.Steps.{Memory, goes, writeWord}
+use Rattle.engine.specs.Ready.{memoryOf}
+use Rattle.engine.specs.declared.Registers.{Registers}
+
+-- ---- Lengths
+
+pub words-length : (run : List ℕ) → length run ≡ runSize → length (wordsIn run) ≡ frameLimit
+unfolding wordsIn
+words-length run is = simp length-take (omega arith)
+
+pub forms-length : (run : List ℕ) → length run ≡ runSize → length (formsIn run) ≡ formsSize
+unfolding formsIn
+forms-length run is = simp length-drop (omega arith)
+
+pub run-length : (run : List ℕ) → length (wordsIn run) ≡ frameLimit → length (formsIn run) ≡ formsSize → length run ≡ runSize
+unfolding wordsIn formsIn
+run-length run words forms = omega (arith, length-take frameLimit run, length-drop frameLimit run)
+
+-- ---- Reading
+
+pub frame-at : (run : List ℕ) (i : ℕ) → i < frameLimit → getD run i 0 ≡ getD (wordsIn run) i 0
+unfolding wordsIn
+frame-at run i h = sym (getD-take frameLimit run i 0 h)
+
+-- number i of the forms
+pub form-at : (run : List ℕ) (i j : ℕ) → j ≡ frameLimit + i → getD run j 0 ≡ getD (formsIn run) i 0
+unfolding formsIn
+form-at run i j is = rw is (sym (getD-drop frameLimit run i 0))
+
+-- ---- Writing
+
+pub frame-written : (store run : List ℕ) (i w : ℕ) → i < frameLimit → memoryOf store (set run i w) ≡ writeWord (memoryOf store run) i w
+unfolding wordsIn formsIn
+frame-written store run i w h = rw (take-set-lt frameLimit run i w h, drop-set-lt frameLimit run i w h)
+
+pub goes-on-written : (r : Registers) (store run : List ℕ) (i w : ℕ) → i < frameLimit
+    → goes r (memoryOf store (set run i w)) ≡ goes r (writeWord (memoryOf store run) i w)
+goes-on-written r store run i w h = ap (λ after. goes r after) (frame-written store run i w h)
+
+words-kept : (run : List ℕ) (j w : ℕ) → frameLimit ≤ j → wordsIn (set run j w) ≡ wordsIn run
+unfolding wordsIn
+words-kept run j w h = take-set-le frameLimit run j w h
+
+form-written : (run : List ℕ) (i j w : ℕ) → j ≡ frameLimit + i → formsIn (set run j w) ≡ set (formsIn run) i w
+unfolding formsIn
+form-written run i j w is = rw is (drop-set-add frameLimit run i w)
+
+-- A form is opened: its four numbers are written behind those of the forms around it, and its frame's word.
+module _ (run : List ℕ) (k a b c d : ℕ) where
+  abbrev place : ℕ
+  place = frameLimit + 4 * k
+
+  abbrev one : List ℕ
+  one = set run place a
+
+  abbrev two : List ℕ
+  two = set one (place + 1) b
+
+  abbrev three : List ℕ
+  three = set two (place + 2) c
+
+  abbrev four : List ℕ
+  four = set three (place + 3) d
+
+  same-words : wordsIn four ≡ wordsIn run
+  same-words =
+      words-kept three (place + 3) d (omega arith)
+      ∙ words-kept two (place + 2) c (omega arith)
+      ∙ words-kept one (place + 1) b (omega arith)
+      ∙ words-kept run place a (omega arith)
+
+  abbrev after : List ℕ
+  after = set (set (set (set (formsIn run) (4 * k) a) (4 * k + 1) b) (4 * k + 2) c) (4 * k + 3) d
+
+  form-after : formsIn four ≡ after
+  form-after =
+      form-written three (4 * k + 3) (place + 3) d (omega arith)
+      ∙ ap (λ l. set l (4 * k + 3) d)
+      (form-written two (4 * k + 2) (place + 2) c (omega arith)
+      ∙ ap (λ l. set l (4 * k + 2) c)
+      (form-written one (4 * k + 1) (place + 1) b (omega arith) ∙ ap (λ l. set l (4 * k + 1) b) (form-written run (4 * k) place a refl)))
+
+  pub form-opened : (store : List ℕ) (top word : ℕ) → top < frameLimit
+      → memoryOf store (set four top word) ≡ record { store = store; words = set (wordsIn run) top word; forms = after }
+  form-opened store top word h = frame-written store four top word h ∙ rw (same-words, form-after)
