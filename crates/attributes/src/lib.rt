@@ -4,8 +4,10 @@ use engine::FRAME_LIMIT;
 use engine::Limits;
 use engine::Registers;
 use engine::Step;
+use engine::frames::ATTRIBUTES;
 use engine::frames::ON_FORM;
 use saiga::NULL;
+use saiga::limits::ATTRIBUTE_LIMIT;
 use saiga::limits::DEPTH_LIMIT;
 use saiga::limits::ENTRY_WIDTH;
 use sheets::lookup::FoundFigure;
@@ -74,8 +76,8 @@ pub fn close_form(store: &mut [u8], links: &mut [u32], memory: &[u64], m: Regist
     let pair = memory[f];
     let value = m.value;
     let key = Key {
-        node: (pair / 32) as u32,
-        attribute: (pair % 32) as u32,
+        node: (pair / ATTRIBUTES) as u32,
+        attribute: (pair % ATTRIBUTES) as u32,
         word: memory[f + 1] as u32,
     };
     let kept = cache_write(store, links, m.kept, key, values::word_of(value));
@@ -102,7 +104,7 @@ fn open_rule(sheet: &[u8], index: &[u32], memory: &mut [u64], m: Registers, key:
     let piece = sheets::lookup::rule(sheet, index, n, a);
     let start = sheets::lookup::rule_start(sheet, index, n, a);
     let f = FRAME_LIMIT + 4 * m.forms;
-    memory[f] = (n * 32 + a) as u64;
+    memory[f] = (n * ATTRIBUTE_LIMIT + a) as u64;
     memory[f + 1] = key.word as u64;
     memory[f + 2] = m.at as u64;
     memory[f + 3] = m.end as u64;

@@ -15,7 +15,7 @@ use Rattle.saiga.specs.Store.{checkStore}
 use Rattle.engine.specs.RunningPiece.{pieceIn, restOf}
 use Rattle.values.specs.Layout.{parameterAt}
 use Rattle.values.specs.Packed.{valueIn}
-use Rattle.engine.specs.FrameWords.{kindOf, ifKind, leftKind, skipKind, rightKind, nodeKind, formKind, heldFunction, heldAttribute, heldNode}
+use Rattle.engine.specs.FrameWords.{pairNode, pairAttribute, kindOf, ifKind, leftKind, skipKind, rightKind, nodeKind, formKind, heldFunction, heldAttribute, heldNode}
 use Rattle.engine.specs.Machine.{Frame, on-if, on-left, on-skip, on-right, on-node, on-parameter, on-form, Mode, evaluating, returning, Machine, openForms}
 use Rattle.engine.specs.declared.Registers.{Registers}
 
@@ -62,14 +62,14 @@ plainFrame w =
     (cond (eqb (kindOf w) rightKind) (on-right (valueIn (heldFunction w)))
     (cond (eqb (kindOf w) nodeKind) (on-node (heldAttribute w)) (on-parameter (valueIn (heldNode w)) (heldAttribute w))))))
 
--- A form is four words: its occurrence, as node × 32 + attribute and the parameter's four-byte form, and where the piece around it goes on and ends.
+-- A form is four numbers (FrameWords.antt): its occurrence, and where the piece around it goes on and ends.
 unfoldable pub formOccurrence : List ℕ → List ℕ → ℕ → Occurrence
 formOccurrence sheet forms k =
     let pair = getD forms (4 * k) 0 in
     record {
-      node = pair / 32;
-      attribute = pair % 32;
-      parameter = ofWord (baseOf (parameterAt sheet (pair % 32))) (getD forms (4 * k + 1) 0);
+      node = pairNode pair;
+      attribute = pairAttribute pair;
+      parameter = ofWord (baseOf (parameterAt sheet (pairAttribute pair))) (getD forms (4 * k + 1) 0);
     }
 
 unfoldable pub formRest : List ℕ → List ℕ → List ℕ → ℕ → List ℕ

@@ -1,4 +1,4 @@
--- A frame in a word of 64 bits: its kind, and eight times what it holds.
+-- What stands in the memory of a run: a frame in a word of 64 bits, which is its kind and eight times what it holds; and an open form in four numbers.
 use Prim.Native.Nat.{ℕ, _+_, _*_, _/_, _%_}
 use Rattle.saiga.specs.Limits.{attributeLimit}
 use Rattle.values.specs.Packed.{packedLimit}
@@ -52,4 +52,16 @@ abbrev pub parameterWord : ℕ → ℕ → ℕ
 parameterWord a packed = parameterKind + 8 * (a + attributeLimit * packed)
 
 abbrev pub heldNode : ℕ → ℕ
-heldNode w = w / 256 % packedLimit
+heldNode w = w / (8 * attributeLimit) % packedLimit
+
+-- ---- An open form
+
+-- The first of its numbers is its node and its attribute in one; then come its parameter's four-byte form, and where the piece around it goes on and ends.
+abbrev pub pairOf : ℕ → ℕ → ℕ
+pairOf n a = n * attributeLimit + a
+
+abbrev pub pairNode : ℕ → ℕ
+pairNode pair = pair / attributeLimit
+
+abbrev pub pairAttribute : ℕ → ℕ
+pairAttribute pair = pair % attributeLimit

@@ -9,6 +9,7 @@ use Rattle.saiga.specs.Values.{wordLimit, baseOf, isWord}
 use Rattle.saiga.specs.Expressions.{Head, base-literal, function-literal, if-head, application-head, attribute-head, this-head, parameter-head, no-head, headOf}
 use Rattle.values.specs.Layout.{parameterAt}
 use Rattle.expressions.specs.Widths.{headWidth}
+use Rattle.engine.specs.FrameWords.{pairNode, pairAttribute}
 use Rattle.engine.specs.Represents.{WidthOf, Packs}
 use Rattle.engine.specs.Decode.{frameLimit, runSize, wordsIn, formsIn}
 use Rattle.engine.specs.Steps.{Memory, writeWord}
@@ -20,7 +21,7 @@ memoryOf store run = record { store = store; words = wordsIn run; forms = formsI
 
 -- ---- The innermost form
 
--- where its four numbers stand in the array of the run, and the first of them: node × 32 + attribute
+-- where its four numbers stand in the array of the run, and the first of them: its node and its attribute
 abbrev pub innermostPlace : Registers → ℕ
 innermostPlace m = frameLimit + 4 * (m .forms - 1)
 
@@ -32,13 +33,13 @@ pub record NodeReady (run : List ℕ) (m : Registers) : Type 0 where
   pub size : length run ≡ runSize
   pub opened : 1 ≤ m .forms
   pub few : m .forms ≤ depthLimit
-  pub small : innermostPair run m / 32 < 65536
+  pub small : pairNode (innermostPair run m) < 65536
 
 -- And its parameter's word is one of the type that the sheet has for its attribute.
 pub record ParameterReady (sheet run : List ℕ) (m : Registers) : Type 0 where
   pub node : NodeReady run m
-  pub declared : 3 * (innermostPair run m % 32) + 2 < length sheet
-  pub word : isWord nodeLimit (baseOf (parameterAt sheet (innermostPair run m % 32))) (getD run (innermostPlace m + 1) 0) ≡ true
+  pub declared : 3 * (pairAttribute (innermostPair run m)) + 2 < length sheet
+  pub word : isWord nodeLimit (baseOf (parameterAt sheet (pairAttribute (innermostPair run m)))) (getD run (innermostPlace m + 1) 0) ≡ true
   pub word-small : getD run (innermostPlace m + 1) 0 < wordLimit
 
 -- ---- Reading a head

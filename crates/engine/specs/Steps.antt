@@ -13,7 +13,7 @@ use Rattle.saiga.specs.Expressions.{Head, base-literal, function-literal, if-he
 use Rattle.engine.specs.RunningPiece.{restOf}
 use Rattle.values.specs.Layout.{resultAt}
 use Rattle.values.specs.Packed.{valueIn}
-use Rattle.engine.specs.FrameWords.{kindOf, ifKind, leftKind, skipKind, rightKind, nodeKind, formKind, rightWord, heldFunction, nodeWord, heldAttribute, parameterWord, heldNode}
+use Rattle.engine.specs.FrameWords.{pairOf, pairNode, pairAttribute, kindOf, ifKind, leftKind, skipKind, rightKind, nodeKind, formKind, rightWord, heldFunction, nodeWord, heldAttribute, parameterWord, heldNode}
 use Rattle.sheets.specs.Scan.{figurePlace, figureAt, indexed, ruleNumber}
 use Rattle.stores.specs.declared.Key.{Key}
 use Rattle.stores.specs.Keys.{findKey, valueWord, recordOf, putAt}
@@ -52,7 +52,7 @@ writeWord mem i w = record { store = mem .store; words = set (mem .words) i w; f
 
 -- the value of 0x31 inside the innermost form, and the node of 0x30
 abbrev pub thisNode : List ℕ → Registers → Value
-thisNode forms m = node (getD forms (4 * (m .forms - 1)) 0 / 32)
+thisNode forms m = node (pairNode (getD forms (4 * (m .forms - 1)) 0))
 
 abbrev pub thisParameter : List ℕ → List ℕ → Registers → Value
 thisParameter sheet forms m = formOccurrence sheet forms (m .forms - 1) .parameter
@@ -93,7 +93,7 @@ unfoldable pub closeForm : Memory → Registers → Stepped
 closeForm mem m =
     let f = 4 * (m .forms - 1) in
     let pair = getD (mem .forms) f 0 in
-    let w = cacheWrite (mem .store) (m .kept) record { node = pair / 32; attribute = pair % 32; word = getD (mem .forms) (f + 1) 0 } (toWord (m .value)) in
+    let w = cacheWrite (mem .store) (m .kept) record { node = pairNode pair; attribute = pairAttribute pair; word = getD (mem .forms) (f + 1) 0 } (toWord (m .value)) in
     goes record {
       returning = true;
       at = getD (mem .forms) (f + 2) 0;
@@ -136,7 +136,7 @@ module _ (sheet index : List ℕ) where
       } record {
         store = mem .store;
         words = set (mem .words) (m .frames - 1) formKind;
-        forms = set (set (set (set (mem .forms) f (n * 32 + a)) (f + 1) word) (f + 2) (m .at)) (f + 3) (m .end);
+        forms = set (set (set (set (mem .forms) f (pairOf n a)) (f + 1) word) (f + 2) (m .at)) (f + 3) (m .end);
       }
 
   unfoldable pub openFigure : Memory → Registers → ℕ → ℕ → ℕ → Option Value → Stepped

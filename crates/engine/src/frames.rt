@@ -1,6 +1,8 @@
 // A frame in a word: its kind, and eight times what it holds (specs/FrameWords.antt).
+use saiga::limits::ATTRIBUTE_LIMIT;
 ghost use mathlib.Core.Path.{_≡_};
 ghost use Prim.Native.Nat.{_<_};
+ghost use Rattle.saiga.specs.Limits.{attributeLimit};
 ghost use Rattle.values.specs.Packed.{packedLimit};
 ghost use Rattle.engine.specs.FrameWords.{kindOf, rightWord, heldFunction, nodeWord, heldAttribute, parameterWord, heldNode};
 
@@ -20,6 +22,11 @@ pub const ON_NODE: u64 = 4;
 pub const ON_PARAMETER: u64 = 5;
 
 pub const ON_FORM: u64 = 6;
+
+// As many attributes as there can be: by so much a node stands higher in a word than an attribute.
+pub const ATTRIBUTES: u64 = ATTRIBUTE_LIMIT as u64;
+
+const NODE_AT: u64 = 8 * ATTRIBUTES;
 
 pub fn kind(w: u64) -> u64
     ensures { λ r. ⌜ r ≡ kindOf w ⌝ }
@@ -50,21 +57,21 @@ pub fn on_node(a: u64) -> u64
 }
 
 pub fn attribute(w: u64) -> u64
-    ensures { λ r. ⌜ (r ≡ heldAttribute w) × (r < 32) ⌝ }
+    ensures { λ r. ⌜ (r ≡ heldAttribute w) × (r < attributeLimit) ⌝ }
 {
-    w / 8 % 32
+    w / 8 % ATTRIBUTES
 }
 
 // The number of an attribute and its node, packed.
 pub fn on_parameter(a: u64, packed: u64) -> u64
-    requires { ⌜ (a < 32) × (packed < packedLimit) ⌝ }
+    requires { ⌜ (a < attributeLimit) × (packed < packedLimit) ⌝ }
     ensures { λ r. ⌜ r ≡ parameterWord a packed ⌝ }
 {
-    ON_PARAMETER + 8 * (a + 32 * packed)
+    ON_PARAMETER + 8 * (a + ATTRIBUTES * packed)
 }
 
 pub fn node(w: u64) -> u64
     ensures { λ r. ⌜ r ≡ heldNode w ⌝ }
 {
-    w / 256 % values::packed::LIMIT
+    w / NODE_AT % values::packed::LIMIT
 }

@@ -1,6 +1,7 @@
 // The evaluator: a machine with explicit frames in lent memory (document 01, "The steps").
 pub mod frames;
 
+use frames::ATTRIBUTES;
 use frames::ON_IF;
 use frames::ON_LEFT;
 use frames::ON_SKIP;
@@ -9,6 +10,7 @@ ghost use mathlib.Core.List.{List};
 ghost use mathlib.Core.Path.{_≡_};
 ghost use Prim.Native.Nat.{ℕ, _+_, _*_, _/_, _%_, _^_, _≤_, _<_};
 ghost use lib.ListN.{length};
+ghost use Rattle.saiga.specs.Limits.{attributeLimit};
 ghost use Rattle.saiga.specs.Values.{truth, apply as applied};
 ghost use Rattle.values.specs.Packed.{valueIn};
 ghost use Rattle.engine.specs.FrameWords.{rightWord, heldFunction, parameterWord};
@@ -143,7 +145,7 @@ fn this_node(memory: &[u64], m: Registers) -> Value
     ensures { λ r. ⌜ r ≡ thisNode (formsIn (now (memory .entry))) m ⌝ }
 {
     let f = FRAME_LIMIT + 4 * (m.forms - 1);
-    Value::Node((memory[f] / 32) as u16)
+    Value::Node((memory[f] / ATTRIBUTES) as u16)
 }
 
 fn this_parameter(sheet: &[u8], memory: &[u64], m: Registers) -> Value
@@ -151,7 +153,7 @@ fn this_parameter(sheet: &[u8], memory: &[u64], m: Registers) -> Value
     ensures { λ r. ⌜ r ≡ thisParameter (now (sheet .entry)) (formsIn (now (memory .entry))) m ⌝ }
 {
     let f = FRAME_LIMIT + 4 * (m.forms - 1);
-    let a = (memory[f] % 32) as usize;
+    let a = (memory[f] % ATTRIBUTES) as usize;
     values::value_of(values::parameter_at(sheet, a), memory[f + 1] as u32)
 }
 
@@ -203,7 +205,7 @@ pub fn take_left(memory: &mut [u64], m: Registers) -> Registers
 
 // An attribute's node: the parameter comes next. `a` is the attribute's number.
 pub fn take_node(memory: &mut [u64], m: Registers, a: u64) -> Registers
-    requires { ⌜ FrameReady (now memory) m × (a < 32) ⌝ }
+    requires { ⌜ FrameReady (now memory) m × (a < attributeLimit) ⌝ }
     ensures { λ r. ⌜ r ≡ turnedTo m ⌝ }
     ensures { λ r. ⌜ Rewrites m (now (memory .entry)) (now (memory .exit)) (parameterWord a) ⌝ }
 {

@@ -17,6 +17,9 @@ ghost use Rattle.expressions.specs.Forms.{typeNumber, inferredNumber, in
 ghost use Rattle.expressions.specs.Widths.{Starts, shapeOf};
 ghost use Rattle.values.specs.Layout.{attributesIn};
 
+// Null, as the number of a node.
+const NULL_NODE: usize = saiga::NULL as usize;
+
 // What reading at the front of some bytes comes to: no expression, or the bytes that one takes and the number of its type.
 pub enum Form {
     Malformed,
@@ -126,7 +129,7 @@ fn read_node(nodes: usize, l: &[u8]) -> Form
     if n < nodes {
         return Form::Reads(3, 4);
     }
-    if n == 65535 {
+    if n == NULL_NODE {
         Form::Reads(3, 4)
     } else {
         Form::Malformed

@@ -6,7 +6,7 @@ use mathlib.Core.Path.{_≡_}
 use Prim.Native.Nat.{ℕ, zero, suc, _+_, _*_, _/_, _%_, _<_, _≤_}
 use lib.Dec.{eqb}
 use lib.ListN.{length, take, drop, getD}
-use Rattle.saiga.specs.Limits.{entryWidth, entryLimit}
+use Rattle.saiga.specs.Limits.{attributeLimit, entryWidth, entryLimit}
 use Rattle.saiga.specs.Values.{Base, ofWord, toWord}
 use Rattle.saiga.specs.declared.Value.{Value}
 use Rattle.saiga.specs.Sheet.{Sheet, nodeCount, Checked, refused_at-place_, accepted}
@@ -84,7 +84,7 @@ abbrev pub linksSize : ℕ
 linksSize = 2048
 
 unfoldable pub bucketOf : Key → ℕ
-bucketOf q = ((q .node * 32 + q .attribute) * 37190065 + q .word * 40503) / 65536 % bucketCount
+bucketOf q = ((q .node * attributeLimit + q .attribute) * 37190065 + q .word * 40503) / 65536 % bucketCount
 
 -- the last of the first k entries in a bucket, and one; or 0
 unfoldable pub lastIn : List ℕ → ℕ → ℕ → ℕ

@@ -1,5 +1,6 @@
 // The store: its checks, and an index over the kept entries, by which an occurrence is found (document 01, "The steps", stops 9 and 10).
 use saiga::Fields;
+use saiga::limits::ATTRIBUTE_LIMIT;
 use saiga::limits::ENTRY_LIMIT;
 use saiga::limits::ENTRY_WIDTH;
 use saiga::limits::STORE_LIMIT;
@@ -26,6 +27,8 @@ const BUCKETS: usize = 1024;
 pub const LINKS_SIZE: usize = BUCKETS + ENTRY_LIMIT;
 
 const BUCKETS_WIDE: u64 = BUCKETS as u64;
+
+const ATTRIBUTES: u64 = ATTRIBUTE_LIMIT as u64;
 
 // Where an entry with a key stands.
 pub enum Found {
@@ -88,7 +91,8 @@ fn key_in(e: Fields) -> Key
 fn bucket(key: Key) -> usize
     ensures { λ r. ⌜ (r ≡ bucketOf key) × (r < bucketCount) ⌝ }
 {
-    let h = (key.node as u64 * 32 + key.attribute as u64) * 37190065 + key.word as u64 * 40503;
+    let h = (key.node as u64 * ATTRIBUTES + key.attribute as u64) * 37190065
+        + key.word as u64 * 40503;
     (h / 65536 % BUCKETS_WIDE) as usize
 }
 

@@ -12,6 +12,7 @@ ghost use lib.IntN.{_+ℤ_, _-ℤ_};
 ghost use lib.ListN.{length, take, drop};
 ghost use lib.Seq.{sets};
 ghost use Rattle.values.specs.Layout.{resultAt, parameterAt, kindAt};
+ghost use Rattle.saiga.specs.Limits.{nodeLimit};
 ghost use Rattle.saiga.specs.Values.{baseOf, functionOf, held as heldOf, truth as truthOf, number as numberOf, nodeOf, applyFunction, applyHolding, apply as applied, ofBytes, toBytes, signed as signedOf, unsigned as unsignedOf, isWord, ofWord, toWord, typeCode, decimal as decimalOf};
 
 // Null in its four-byte form.
@@ -251,7 +252,7 @@ pub fn is_word(nodes: usize, code: u8, w: u32) -> bool
 
 // The value of such a number.
 pub fn value_of(code: u8, w: u32) -> Value
-    requires { ⌜ isWord 1024 (baseOf code) w ≡ true ⌝ }
+    requires { ⌜ isWord nodeLimit (baseOf code) w ≡ true ⌝ }
     ensures { λ r. ⌜ r ≡ ofWord (baseOf code) w ⌝ }
 {
     match code {
