@@ -25,7 +25,7 @@ extern "C" {
 /* Scratch that a caller lends: of a checked sheet, of a checked store, and of a run. What they hold is the library's affair and may change with it: a
  * caller makes them, lends them, and looks at nothing inside. */
 #define SOFRETU_SHEET_WORDS 33282
-#define SOFRETU_STORE_WORDS 2048
+#define SOFRETU_STORE_WORDS 9216
 #define SOFRETU_RUN_WORDS 16896
 
 typedef struct {
@@ -33,7 +33,7 @@ typedef struct {
 } sofretu_checked_sheet;
 
 typedef struct {
-    uint32_t words[SOFRETU_STORE_WORDS];
+    uint16_t words[SOFRETU_STORE_WORDS];
 } sofretu_checked_store;
 
 typedef struct {

@@ -13,17 +13,22 @@ use Rattle.saiga.specs.Values.{toWord}
 use Rattle.stores.specs.declared.Key.{Key}
 use Rattle.stores.specs.declared.Found.{Found}
 use Rattle.stores.specs.declared.Found.the-variants.{Nothing, At}
-use Rattle.stores.specs.Keys.{findKey, foundOf, EntryPut}
-use Rattle.stores.proofs.Chains.{nothing-found, found-at}
+use Rattle.stores.specs.Walks.{Keyed, Free}
+use Rattle.stores.specs.Keys.{findKey, foundOf, FreeIn, EntryPut}
+use Rattle.stores.proofs.Searches.{nothing-found, found-at}
 use Rattle.engine.specs.declared.Registers.{Registers}
 use Rattle.engine.specs.Ready.{memoryOf, innermostPlace, innermostPair}
 use Rattle.engine.proofs.RunMemory.{form-at}
 use Rattle.engine.specs.Steps.{goes, appended, unlessFound, cacheWrite, closeForm}
-use Rattle.attributes.specs.Due.{WriteReady}
+use Rattle.attributes.specs.Due.{WriteReady, CloseReady}
 
 -- What is not found is not kept.
-pub not-kept : (store : List ℕ) (kept : ℕ) (q : Key) (r : Found) → r ≡ Nothing → r ≡ foundOf (findKey store kept q) → findKey store kept q ≡ none
-not-kept store kept q r nothing found = nothing-found _ _ found refl nothing
+pub not-kept : (store : List ℕ) (kept : ℕ) (q : Key) (r : Found) (cell : ℕ) → r ≡ Nothing cell → foundOf r ≡ findKey store kept q → findKey store kept q ≡ none
+not-kept store kept q r cell nothing found = nothing-found _ _ found refl nothing
+
+-- and its cell in the index is free
+pub free-cell : (links : List ℕ) (q : Key) (r : Found) (cell : ℕ) → r ≡ Nothing cell → FreeIn links q r → Free links q cell
+free-cell links q r cell nothing free = rw nothing at free
 
 module _ (store : List ℕ) (kept : ℕ) (full : Bool) (is : full ≡ leb (length store / 12) kept) where
   module _ (q : Key) (value : ℕ) where
@@ -31,7 +36,7 @@ module _ (store : List ℕ) (kept : ℕ) (full : Bool) (is : full ≡ leb (lengt
     unfolding cacheWrite
     write-full taken = rw (sym is ∙ taken)
 
-    pub write-known : (r : Found) (j : ℕ) → full ≡ false → r ≡ foundOf (findKey store kept q) → r ≡ At j → (store, kept) ≡ cacheWrite store kept q value
+    pub write-known : (r : Found) (j : ℕ) → full ≡ false → foundOf r ≡ findKey store kept q → r ≡ At j → (store, kept) ≡ cacheWrite store kept q value
     unfolding cacheWrite unlessFound
     write-known r j room found at-j = rw (sym is ∙ room, found-at _ _ found refl _ at-j)
 
@@ -47,6 +52,11 @@ module _ (store : List ℕ) (kept : ℕ) (full : Bool) (is : full ≡ leb (lengt
 
     pub room-few : (links : List ℕ) → WriteReady store links kept → kept < entryLimit
     room-few links ready = omega (arith, room-stands, ready .short)
+
+-- A form's numbers are a key of bytes.
+pub form-keyed : (store links run : List ℕ) (m : Registers) → CloseReady store links run m
+    → Keyed record { node = innermostPair run m / 32; attribute = innermostPair run m % 32; word = getD run (innermostPlace m + 1) 0 }
+form-keyed store links run m ready = record { node = ready .node .small; attribute = omega arith; word = ready .word-small }
 
 -- A form is closed with what CacheWrite leaves.
 pub closes : (store run : List ℕ) (m : Registers) (store′ : List ℕ) (kept′ w : ℕ) → w ≡ toWord (m .value)

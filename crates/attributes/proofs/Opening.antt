@@ -19,7 +19,7 @@ use Rattle.stores.specs.declared.Key.{Key}
 use Rattle.stores.specs.declared.Found.{Found}
 use Rattle.stores.specs.declared.Found.the-variants.{Nothing, At}
 use Rattle.stores.specs.Keys.{Linked, findKey, foundOf, valueWord}
-use Rattle.stores.proofs.Chains.{nothing-found, found-at, found-below}
+use Rattle.stores.proofs.Searches.{nothing-found, found-at, found-below}
 use Rattle.values.specs.Packed.{valueIn}
 use Rattle.engine.specs.declared.Registers.{Registers}
 use Rattle.engine.specs.FrameWords.{formKind, heldAttribute, heldNode}
@@ -123,14 +123,14 @@ module _ (sheet index : List ℕ) (n a : ℕ) (rule : IndexedRule sheet index n 
 -- ---- A kept value, or the definition
 
 -- what the code found of the occurrence in the store
-module _ (store : List ℕ) (m : Registers) (q : Key) (found : Found) (is : found ≡ foundOf (findKey store (m .kept) q)) where
-  pub takes-definition : (sheet index run run′ store′ : List ℕ) (r : Registers) → found ≡ Nothing → q .word ≡ toWord (m .value)
+module _ (store : List ℕ) (m : Registers) (q : Key) (found : Found) (is : foundOf found ≡ findKey store (m .kept) q) where
+  pub takes-definition : (sheet index run run′ store′ : List ℕ) (r : Registers) (cell : ℕ) → found ≡ Nothing cell → q .word ≡ toWord (m .value)
       → goes r (memoryOf store′ run′)
       ≡ openFigure sheet index (memoryOf store run) m (q .node) (q .attribute) (q .word)
       (indexed (getD index (figurePlace (q .node) (q .attribute)) 0) (figureAt sheet (q .attribute)))
       → goes r (memoryOf store′ run′) ≡ takeKept sheet index (memoryOf store run) m (q .node) (q .attribute) (findKey store (m .kept) q)
   unfolding takeKept
-  takes-definition sheet index run run′ store′ r nothing word opened = rw (nothing-found _ _ is refl nothing) (rw word at opened)
+  takes-definition sheet index run run′ store′ r cell nothing word opened = rw (nothing-found _ _ is refl nothing) (rw word at opened)
 
   module _ (j : ℕ) (at-j : found ≡ At j) where
     pub kept-within : (links : List ℕ) → WriteReady store links (m .kept) → 12 * j + 12 ≤ length store

@@ -23,6 +23,7 @@ ghost use Rattle.saiga.specs.Limits.{entryWidth, depthLimit};
 ghost use Rattle.saiga.specs.Values.{null, toWord, nodeOf};
 ghost use Rattle.sheets.specs.Scan.{figurePlace, figureAt, indexed};
 ghost use Rattle.stores.specs.Keys.{Linked, findKey};
+ghost use Rattle.stores.specs.Walks.{Keyed, Free};
 ghost use Rattle.values.specs.Packed.{valueIn};
 ghost use Rattle.engine.specs.Steps.{goes, cacheWrite, closeForm, openRule, openFigure, takeKept, attributeDue};
 ghost use Rattle.engine.specs.Ready.{memoryOf};
@@ -37,37 +38,45 @@ fn is_full(store: &[u8], kept: usize) -> bool
     store.len() / ENTRY_WIDTH <= kept
 }
 
-// CacheWrite of an occurrence that was looked for and is not kept: the entry is appended if the store is not full. The kept number after it.
-fn keep(store: &mut [u8], links: &mut [u32], kept: usize, key: Key, value: u32) -> usize
-    requires { ⌜ WriteReady (now store) (now links) kept × (key .attribute < 256) ⌝ }
-    requires { ⌜ findKey (now store) kept key ≡ none ⌝ }
+// CacheWrite of an occurrence that was looked for and is not kept: the entry is appended if the store is not full. `cell` is free for it in the store's
+// index. The kept number after it.
+fn keep(
+    store: &mut [u8],
+    links: &mut [u16],
+    kept: usize,
+    key: Key,
+    value: u32,
+    cell: usize,
+) -> usize
+    requires { ⌜ WriteReady (now store) (now links) kept × Keyed key ⌝ }
+    requires { ⌜ (findKey (now store) kept key ≡ none) × Free (now links) key cell ⌝ }
     ensures { λ r. ⌜ (now (store .exit), r) ≡ cacheWrite (now (store .entry)) kept key value ⌝ }
     ensures { λ r. ⌜ Linked (now (store .exit)) r (now (links .exit)) ⌝ }
 {
     if is_full(store, kept) {
         return kept;
     }
-    stores::append(store, kept, links, key, value);
+    stores::append(store, kept, links, key, value, cell);
     kept + 1
 }
 
 // CacheWrite: as `keep`, if the occurrence is not kept. A full store is not searched.
-fn cache_write(store: &mut [u8], links: &mut [u32], kept: usize, key: Key, value: u32) -> usize
-    requires { ⌜ WriteReady (now store) (now links) kept × (key .attribute < 256) ⌝ }
+fn cache_write(store: &mut [u8], links: &mut [u16], kept: usize, key: Key, value: u32) -> usize
+    requires { ⌜ WriteReady (now store) (now links) kept × Keyed key ⌝ }
     ensures { λ r. ⌜ (now (store .exit), r) ≡ cacheWrite (now (store .entry)) kept key value ⌝ }
     ensures { λ r. ⌜ Linked (now (store .exit)) r (now (links .exit)) ⌝ }
 {
     if is_full(store, kept) {
         return kept;
     }
-    let Found::Nothing = stores::find(store, kept, links, key) else {
+    let Found::Nothing(cell) = stores::find(store, kept, links, key) else {
         return kept;
     };
-    keep(store, links, kept, key, value)
+    keep(store, links, kept, key, value, cell)
 }
 
 // The value that a form waited for is kept, and given to the frame around it.
-pub fn close_form(store: &mut [u8], links: &mut [u32], memory: &[u64], m: Registers) -> Registers
+pub fn close_form(store: &mut [u8], links: &mut [u16], memory: &[u64], m: Registers) -> Registers
     requires { ⌜ CloseReady (now store) (now links) (now memory) m ⌝ }
     ensures { λ r. ⌜ goes r (memoryOf (now (store .exit)) (now (memory .entry))) ≡ closeForm (memoryOf (now (store .entry)) (now (memory .entry))) m ⌝ }
     ensures { λ r. ⌜ Linked (now (store .exit)) (r .kept) (now (links .exit)) ⌝ }
@@ -123,17 +132,18 @@ fn open_rule(sheet: &[u8], index: &[u32], memory: &mut [u64], m: Registers, key:
     }
 }
 
-// AttrApp of an occurrence that is not kept: its figure, which is kept at once, or its rule.
+// AttrApp of an occurrence that is not kept: its figure, which is kept at once in the free cell of the store's index, or its rule.
 fn open_definition(
     sheet: &[u8],
     index: &[u32],
     store: &mut [u8],
-    links: &mut [u32],
+    links: &mut [u16],
     memory: &mut [u64],
     m: Registers,
     key: Key,
+    cell: usize,
 ) -> Registers
-    requires { ⌜ findKey (now store) (m .kept) key ≡ none ⌝ }
+    requires { ⌜ Keyed key × (findKey (now store) (m .kept) key ≡ none) × Free (now links) key cell ⌝ }
     requires { ⌜ AttributeReady (now sheet) (now index) (now store) (now links) (now memory) m (key .node) (key .attribute) ⌝ }
     ensures { λ r. ⌜ goes r (memoryOf (now (store .exit)) (now (memory .exit)))
         ≡ openFigure (now (sheet .entry)) (now (index .entry)) (memoryOf (now (store .entry)) (now (memory .entry))) m (key .node) (key .attribute) (key .word)
@@ -144,7 +154,7 @@ fn open_definition(
     let FoundFigure::Of(v) = found else {
         return open_rule(sheet, index, memory, m, key);
     };
-    let kept = keep(store, links, m.kept, key, values::word_of(v));
+    let kept = keep(store, links, m.kept, key, values::word_of(v), cell);
     engine::answered(m, kept, v)
 }
 
@@ -153,27 +163,31 @@ fn take_attribute(
     sheet: &[u8],
     index: &[u32],
     store: &mut [u8],
-    links: &mut [u32],
+    links: &mut [u16],
     memory: &mut [u64],
     m: Registers,
     key: Key,
 ) -> Registers
-    requires { ⌜ key .word ≡ toWord (m .value) ⌝ }
+    requires { ⌜ (key .word ≡ toWord (m .value)) × Keyed key ⌝ }
     requires { ⌜ AttributeReady (now sheet) (now index) (now store) (now links) (now memory) m (key .node) (key .attribute) ⌝ }
     ensures { λ r. ⌜ goes r (memoryOf (now (store .exit)) (now (memory .exit)))
         ≡ takeKept (now (sheet .entry)) (now (index .entry)) (memoryOf (now (store .entry)) (now (memory .entry))) m (key .node) (key .attribute)
         (findKey (now (store .entry)) (m .kept) key) ⌝ }
     ensures { λ r. ⌜ Linked (now (store .exit)) (r .kept) (now (links .exit)) ⌝ }
 {
-    let Found::At(j) = stores::find(store, m.kept, links, key) else {
-        return open_definition(sheet, index, store, links, memory, m, key);
-    };
-    let a = key.attribute as usize;
-    engine::answered(
-        m,
-        m.kept,
-        values::value_of(values::result_at(sheet, a), stores::value_word(store, j)),
-    )
+    match stores::find(store, m.kept, links, key) {
+        Found::At(j) => {
+            let a = key.attribute as usize;
+            engine::answered(
+                m,
+                m.kept,
+                values::value_of(values::result_at(sheet, a), stores::value_word(store, j)),
+            )
+        }
+        Found::Nothing(cell) => {
+            open_definition(sheet, index, store, links, memory, m, key, cell)
+        }
+    }
 }
 
 // AttrApp is due with the node and the attribute that the frame's word holds: the limits in the order of their numbers, then the step.
@@ -181,7 +195,7 @@ pub fn attribute_due(
     sheet: &[u8],
     index: &[u32],
     store: &mut [u8],
-    links: &mut [u32],
+    links: &mut [u16],
     memory: &mut [u64],
     limits: Limits,
     m: Registers,

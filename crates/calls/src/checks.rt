@@ -46,7 +46,7 @@ fn check_from_store(
     store: &[u8],
     kept: usize,
     budget: usize,
-    links: &mut [u32],
+    links: &mut [u16],
 ) -> Verdict
     requires { ⌜ (3 * attributes ≤ length (now sheet)) × (length (now links) ≡ linksSize) ⌝ }
     ensures { λ r. ⌜ FromStore (now (sheet .entry)) attributes nodes (lent (now (store .entry)) kept) (asking (now (question .entry)) budget) (now (links .exit)) r ⌝ }
@@ -68,11 +68,11 @@ pub fn check(
     kept: usize,
     budget: usize,
     index: &mut [u32; INDEX_SIZE],
-    links: &mut [u32; LINKS_SIZE],
+    links: &mut [u16; LINKS_SIZE],
 ) -> Verdict
     ensures { λ r. ⌜ CallChecked (now (sheet .entry)) (lent (now (store .entry)) kept) (asking (now (question .entry)) budget) (now (index .exit)) (now (links .exit)) r ⌝ }
 {
-    let chains: &mut [u32] = links;
+    let chains: &mut [u16] = links;
     match sheets::check(sheet, index) {
         SheetCheck::Refused(number, place) => Verdict::Refused(number, place),
         SheetCheck::Accepted(attributes, nodes) => check_from_store(

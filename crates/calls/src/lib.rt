@@ -57,7 +57,7 @@ fn put<'a>(
     index: &[u32],
     question: &'a [u8],
     store: &mut [u8],
-    links: &mut [u32],
+    links: &mut [u16],
     memory: &mut [u64],
     kept: usize,
     budget: usize,
@@ -91,7 +91,7 @@ pub fn ask_checked<'a>(
     store: &mut [u8],
     kept: usize,
     budget: usize,
-    links: &mut [u32],
+    links: &mut [u16],
     memory: &mut [u64; RUN_SIZE],
 ) -> Answer
     requires { ⌜ PreparedSheet (now sheet) (now index) ⌝ }
@@ -128,7 +128,7 @@ pub fn ask<'a>(
     kept: usize,
     budget: usize,
     index: &mut [u32; INDEX_SIZE],
-    links: &mut [u32; LINKS_SIZE],
+    links: &mut [u16; LINKS_SIZE],
     memory: &mut [u64; RUN_SIZE],
 ) -> Answer
     ensures { λ r. ⌜ answerOf r ≡ called (now (sheet .entry)) (lent (now (store .entry)) kept) (asking (now (question .entry)) budget) .answer ⌝ }

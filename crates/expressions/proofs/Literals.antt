@@ -2,8 +2,7 @@
 use mathlib.Core.Bool.{true, false}
 use mathlib.Core.List.{List, [], _∷_}
 use mathlib.Core.Path.{_≡_, refl}
-use Prim.Native.Nat.{ℕ, zero, suc, _+_, _*_, _-_, _^_, _≤_, _<_}
-use native.Mathlib.Nat.{pow-zero}
+use Prim.Native.Nat.{ℕ, zero, suc, _+_, _*_, _-_, _≤_, _<_}
 use native.Mathlib.Omega.{arith}
 use lib.ListN.{length, take, drop, getD}
 use lib.Seq.{getD-drop}
@@ -13,6 +12,7 @@ use Rattle.saiga.specs.Values.{Base, unitT, boolT, intT, nodeT, baseCode, null,
 use Rattle.saiga.specs.Expressions.{Scope, base-literal, function-literal, this-head, parameter-head, no-head, headOf, operandWidth, readOperand, readAfter, whenever}
 use Rattle.saiga.specs.Types.{Attribute, infer}
 use Rattle.saiga.proofs.FourBytes.{word-in, in-type}
+use Rattle.values.proofs.Bytes.{bytes-below}
 use Rattle.expressions.specs.declared.Form.the-variants.{Malformed, Reads}
 use Rattle.expressions.specs.Forms.{typeNumber, inferredNumber, formOf, formAfter}
 
@@ -28,12 +28,6 @@ unfolding ofBytes
 two-bytes [] h = absurd (omega arith)
 two-bytes (a ∷ []) h = absurd (omega arith)
 two-bytes (a ∷ b ∷ l) h = omega arith
-
-pub bytes-below : (n : ℕ) (l : List ℕ) → ((i : ℕ) → getD l i 0 < 256) → ofBytes (take n l) < 256 ^ n
-unfolding ofBytes
-bytes-below zero l h = omega (arith, pow-zero 256)
-bytes-below (suc n) [] h = omega (arith, bytes-below n [] h)
-bytes-below (suc n) (b ∷ l) h = omega (arith, h 0, bytes-below n l λ i. h (suc i))
 
 -- Four bytes are always an Int, also where the code lends them as what follows a head.
 pub int-word : (nodes : ℕ) (e : List ℕ) → ((i : ℕ) → getD e i 0 < 256) → isWord nodes intT (ofBytes (take 4 (take (length e - 1) (drop 1 e)))) ≡ true

@@ -93,7 +93,7 @@ fn ask<'a>(
     question: &'a [u8],
     store: &mut [u8],
     kept: usize,
-    links: &mut [u32],
+    links: &mut [u16],
     memory: &mut [u64; RUN_SIZE],
 ) -> Answer
     requires { ⌜ Prepared check (now sheet) (now index) (now store) kept (now links) ⌝ }
@@ -122,7 +122,7 @@ fn answer<'a>(
     question: &'a [u8],
     store: &mut [u8],
     kept: usize,
-    links: &mut [u32],
+    links: &mut [u16],
     memory: &mut [u64; RUN_SIZE],
     line: &mut [u8; 128],
 ) -> Answered
@@ -172,7 +172,7 @@ fn turn<'a>(
     index: &[u32],
     input: &'a [u8],
     store: &mut [u8],
-    links: &mut [u32],
+    links: &mut [u16],
     memory: &mut [u64; RUN_SIZE],
     line: &mut [u8; 128],
     s: State,
@@ -268,7 +268,7 @@ fn run(
     index: &[u32],
     input: &mut [u8],
     store: &mut [u8],
-    links: &mut [u32],
+    links: &mut [u16],
     memory: &mut [u64; RUN_SIZE],
 ) -> Ending
     requires { ⌜ Prepared check (now sheet) (now index) (now store) 0 (now links) ⌝ }
@@ -322,7 +322,7 @@ fn prepare(
     sheet: &[u8],
     index: &mut [u32; INDEX_SIZE],
     store: &[u8],
-    links: &mut [u32],
+    links: &mut [u16],
 ) -> SheetCheck
     requires { ⌜ (length (now store) ≡ storeLimit) × (length (now links) ≡ linksSize) ⌝ }
     ensures { λ r. ⌜ Prepared r (now (sheet .entry)) (now (index .exit)) (now (store .entry)) 0 (now (links .exit)) ⌝ }
@@ -339,7 +339,7 @@ fn prepare(
 // All questions are put to one store of 1,024 entries, which is empty at first. `index` has room for the sheet's.
 fn answer_all(sheet: &[u8], index: &mut [u32; INDEX_SIZE]) {
     let mut store = [0u8; STORE_LIMIT];
-    let mut links = [0u32; LINKS_SIZE];
+    let mut links = [0u16; LINKS_SIZE];
     let check = prepare(sheet, index, &store, &mut links);
     let mut input = [0u8; 131072];
     let mut memory = [0u64; RUN_SIZE];

@@ -35,7 +35,7 @@ pub extern "C" fn sofretu_check(
     ensures { λ _. ⌜ now (place .exit) ≡ placeOf (checkCall (now (sheet .entry)) (lent (now (store .entry)) kept) (asking (now (question .entry)) budget)) ⌝ }
 {
     let mut index = [0u32; INDEX_SIZE];
-    let mut links = [0u32; LINKS_SIZE];
+    let mut links = [0u16; LINKS_SIZE];
     match calls::checks::check(
         sheet,
         question,
@@ -104,7 +104,7 @@ pub extern "C" fn sofretu_ask_in<'a>(
     kept: u64,
     budget: u64,
     index: &mut [u32; INDEX_SIZE],
-    links: &mut [u32; LINKS_SIZE],
+    links: &mut [u16; LINKS_SIZE],
     memory: &mut [u64; RUN_SIZE],
     answer: &mut [i64; 6],
 )
@@ -142,7 +142,7 @@ pub extern "C" fn sofretu_ask<'a>(
     ensures { λ _. ⌜ now (store .exit) ≡ ask (now (sheet .entry)) (lent (now (store .entry)) kept) (asking (now (question .entry)) budget) .store ⌝ }
 {
     let mut index = [0u32; INDEX_SIZE];
-    let mut links = [0u32; LINKS_SIZE];
+    let mut links = [0u16; LINKS_SIZE];
     let mut memory = [0u64; RUN_SIZE];
     sofretu_ask_in(
         sheet,
@@ -196,7 +196,7 @@ pub extern "C" fn sofretu_check_store(
     index: &[u32; INDEX_SIZE],
     store: &[u8],
     kept: u64,
-    links: &mut [u32; LINKS_SIZE],
+    links: &mut [u16; LINKS_SIZE],
     place: &mut u64,
 ) -> u32
     ensures { λ r. ⌜ StoreFound (now (sheet .entry)) (now (index .entry)) (now (store .entry)) kept (now (links .exit)) r (now (place .exit)) ⌝ }
@@ -230,7 +230,7 @@ pub extern "C" fn sofretu_ask_checked<'a>(
     store: &mut [u8],
     kept: u64,
     budget: u64,
-    links: &mut [u32; LINKS_SIZE],
+    links: &mut [u16; LINKS_SIZE],
     memory: &mut [u64; RUN_SIZE],
     answer: &mut [i64; 6],
 )

@@ -25,10 +25,12 @@ use Rattle.saiga.proofs.FourBytes.{word-trip, word-in, same-value-refl}
 use Rattle.saiga.proofs.Equality.{same-occurrence}
 use Rattle.saiga.proofs.Entries.{store-in, read-one, read-none}
 use Rattle.stores.specs.declared.Key.{Key}
-use Rattle.stores.specs.Keys.{keyOf, sameKey, fieldsAt, keyIn, keyAt, findKey, foundOf, entryAt, entriesIn, valueWord, keptAt}
+use Rattle.stores.specs.declared.Trial.the-variants as trial
+use Rattle.stores.specs.Walks.{Keyed}
+use Rattle.stores.specs.Keys.{keyOf, sameKey, fieldsAt, keyIn, keyAt, findKey, foundOf, FreeIn, entryAt, entriesIn, valueWord, keptAt, isPassed, EntryTested}
 use Rattle.stores.specs.declared.Found.{Found}
 use Rattle.stores.specs.declared.Found.the-variants.{At, Nothing}
-use Rattle.stores.proofs.Chains.{same-key, key-refl, found-below, nothing-found, found-at}
+use Rattle.stores.proofs.Searches.{same-key, key-refl, found-below, nothing-found, found-at}
 
 -- ---- Reading entries
 
@@ -252,14 +254,9 @@ module _ (s : Sheet) (store : List ℕ) (k : ℕ) (es : List Entry) (passes : ch
 
 -- ---- One entry more
 
--- What the code's test of entry j answers, for each sheet of these attributes and nodes: by itself, and after the entries before it.
+-- What the code's test of entry j by itself answers, for each sheet of these attributes and nodes.
 abbrev pub Alone : List ℕ → ℕ → ℕ → List ℕ → ℕ → Bool → Type 0
 Alone types attributes nodes store j r = (s : Sheet) → s .attributes ≡ attributesIn types attributes → nodeCount s ≡ nodes → r ≡ isEntry s [] (take 12 (drop (12 * j) store))
-
-abbrev pub Tested : List ℕ → ℕ → ℕ → List ℕ → ℕ → Bool → Type 0
-Tested types attributes nodes store j r =
-    (s : Sheet) → s .attributes ≡ attributesIn types attributes → nodeCount s ≡ nodes → readEntries s j [] store ≡ accepted (entriesIn s store j)
-    → r ≡ isEntry s (entriesIn s store j) (take 12 (drop (12 * j) store))
 
 module _ (s : Sheet) (store : List ℕ) (j : ℕ) where
   pub first-tests : isEntry s [] (take 12 (drop (12 * j) store)) ≡ tests s store j
@@ -269,8 +266,8 @@ module _ (s : Sheet) (store : List ℕ) (j : ℕ) where
   module _ (types : List ℕ) (attributes nodes : ℕ) (a : s .attributes ≡ attributesIn types attributes) (n : nodeCount s ≡ nodes) {r : Bool}
       (alone : Alone types attributes nodes store j r) where
     -- What fails by itself fails after any entries.
-    pub entry-fails : not r ≡ true → (before : List Entry) → false ≡ isEntry s before (take 12 (drop (12 * j) store))
-    entry-fails t before = rw (entry-tests s store j before, ← first-tests, ← alone s a n, not-true r t)
+    fails-after : not r ≡ true → (before : List Entry) → false ≡ isEntry s before (take 12 (drop (12 * j) store))
+    fails-after t before = rw (entry-tests s store j before, ← first-tests, ← alone s a n, not-true r t)
 
     -- What passes by itself passes after the entries before it if none of them has its key.
     module _ (passed : not r ≡ false) (reads : readEntries s j [] store ≡ accepted (entriesIn s store j)) where
@@ -280,14 +277,43 @@ module _ (s : Sheet) (store : List ℕ) (j : ℕ) where
       entry-kept : kept (entriesIn s store j) (entryAt s store j .occurrence) ≡ keptAt (resultType s (keyAt store j)) store (findKey store j (keyAt store j))
       entry-kept = rw (entry-key s store j all-tests) at (kept-found s store (entryAt s store j .occurrence) (entry-in s store j all-tests) j reads)
 
-      module _ {f : Fields} (at : f ≡ fieldsAt store j) {q : Key} (key : q ≡ keyIn f) {found : Found} (answer : found ≡ foundOf (findKey store j q)) where
-        same : q ≡ keyAt store j
-        same = key ∙ ap keyIn at
+      new-passes : findKey store j (keyAt store j) ≡ none → true ≡ isEntry s (entriesIn s store j) (take 12 (drop (12 * j) store))
+      unfolding keptAt isKept
+      new-passes e = rw (entry-tests s store j (entriesIn s store j), all-tests, entry-kept, e)
 
-        pub entry-new : found ≡ Nothing → true ≡ isEntry s (entriesIn s store j) (take 12 (drop (12 * j) store))
-        unfolding keptAt isKept
-        entry-new e = rw (entry-tests s store j (entriesIn s store j), all-tests, entry-kept, nothing-found store j answer same e)
+      known-fails : (i : ℕ) → findKey store j (keyAt store j) ≡ some i → false ≡ isEntry s (entriesIn s store j) (take 12 (drop (12 * j) store))
+      unfolding keptAt isKept
+      known-fails i e = rw (entry-tests s store j (entriesIn s store j), all-tests, entry-kept, e)
 
-        pub entry-known : (i : ℕ) → found ≡ At i → false ≡ isEntry s (entriesIn s store j) (take 12 (drop (12 * j) store))
-        unfolding keptAt isKept
-        entry-known i e = rw (entry-tests s store j (entriesIn s store j), all-tests, entry-kept, found-at store j answer same i e)
+-- What the code answers of entry j: by its tests, and then by the search for its key.
+module _ (types : List ℕ) (attributes nodes : ℕ) (store : List ℕ) (j : ℕ) (index : List ℕ) {r : Bool} (alone : Alone types attributes nodes store j r) where
+  fails : ((s : Sheet) → s .attributes ≡ attributesIn types attributes → nodeCount s ≡ nodes → readEntries s j [] store ≡ accepted (entriesIn s store j)
+      → false ≡ isEntry s (entriesIn s store j) (take 12 (drop (12 * j) store)))
+      → EntryTested types attributes nodes store j index trial.Fails
+  unfolding isPassed
+  fails answer =
+      record {
+        answer = answer;
+        keyed = λ cell e. absurd (let z : _≡_ {A = ℕ} 0 1 = cc in omega arith);
+        new = λ cell e. absurd (let z : _≡_ {A = ℕ} 0 1 = cc in omega arith);
+        free = λ cell e. absurd (let z : _≡_ {A = ℕ} 0 1 = cc in omega arith);
+      }
+
+  pub entry-fails : not r ≡ true → EntryTested types attributes nodes store j index trial.Fails
+  entry-fails t = fails λ s a n q. fails-after s store j types attributes nodes a n alone t (entriesIn s store j)
+
+  module _ (passed : not r ≡ false) {f : Fields} (at : f ≡ fieldsAt store j) {q : Key} (key : q ≡ keyIn f) (found : Found) (answer : foundOf found ≡ findKey store j q) where
+    pub entry-known : (i : ℕ) → found ≡ At i → EntryTested types attributes nodes store j index trial.Fails
+    entry-known i e = fails λ s a n reads. known-fails s store j types attributes nodes a n alone passed reads i (found-at store j answer (key ∙ ap keyIn at) i e)
+
+    pub entry-new : Keyed (keyIn f) → FreeIn index q found → (cell : ℕ) → found ≡ Nothing cell → EntryTested types attributes nodes store j index (trial.Passes cell)
+    unfolding isPassed
+    entry-new keyed free cell e =
+        let same : q ≡ keyAt store j = key ∙ ap keyIn at in
+        let new = nothing-found store j answer same e in
+        record {
+          answer = λ s a n reads. new-passes s store j types attributes nodes a n alone passed reads new;
+          keyed = λ c f. rw at at keyed;
+          new = λ c f. new;
+          free = λ c f. let is : cell ≡ c = cc in rw (is, same) at (rw e at free);
+        }

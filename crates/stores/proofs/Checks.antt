@@ -15,11 +15,14 @@ use Rattle.saiga.specs.Types.{attributeAt}
 use Rattle.values.specs.Layout.{resultAt, parameterAt, attributesIn}
 use Rattle.saiga.specs.Sheet.{Sheet, nodeCount, refused_at-place_, accepted}
 use Rattle.saiga.specs.Store.{isEntry, readEntries, checkStore}
-use Rattle.stores.specs.Keys.{fieldsAt, keyIn, entriesIn, Linked, storeCheckOf, StoreChecked}
+use Rattle.stores.specs.declared.Trial.{Trial}
+use Rattle.stores.specs.declared.Trial.the-variants.{Passes, Fails}
+use Rattle.stores.specs.Walks.{bucketCount, emptied, planted}
+use Rattle.stores.specs.Keys.{fieldsAt, keyIn, keyAt, entriesIn, isPassed, Linked, EntryTested, storeCheckOf, StoreChecked}
 use Rattle.stores.specs.declared.StoreCheck.the-variants.{Refused, Accepted}
 use Rattle.values.proofs.Declared.{attribute-at, attributes-count}
-use Rattle.stores.proofs.Chains.{linked-none}
-use Rattle.stores.proofs.ByKey.{tests, first-tests, Tested, entry-read, entry-refused}
+use Rattle.stores.proofs.Walks.{linked-none, free-small, linked-more}
+use Rattle.stores.proofs.ByKey.{tests, first-tests, entry-read, entry-refused}
 
 -- ---- The tests of an entry
 
@@ -57,28 +60,45 @@ module _ (s : Sheet) (types : List ℕ) (attributes nodes : ℕ) (a : s .attribu
 -- Where the check stands after i entries.
 pub record Checking (types : List ℕ) (attributes nodes : ℕ) (store : List ℕ) (kept : ℕ) (index : List ℕ) (i : ℕ) : Type 0 where
   pub within : i ≤ kept
+  pub few : kept ≤ 1024
+  pub stands : 12 * kept ≤ length store
   pub linked : Linked store i index
   pub reads : (s : Sheet) → s .attributes ≡ attributesIn types attributes → nodeCount s ≡ nodes → readEntries s i [] store ≡ accepted (entriesIn s store i)
 
 module _ (types : List ℕ) (attributes nodes : ℕ) (store : List ℕ) (kept : ℕ) where
-  pub check-starts : (index : List ℕ) {size : ℕ} → length index ≡ size → size ≡ 2048 → ((b : ℕ) → b < 1024 → getD index b 0 ≡ 0) → Checking types attributes nodes store kept index 0
+  pub check-starts : length store ≤ 12288 → kept ≤ length store / 12 → (index : List ℕ) {index′ : List ℕ} → length index ≡ 9216
+      → index′ ≡ emptied index 0 bucketCount → Checking types attributes nodes store kept index′ 0
   unfolding readEntries entriesIn
-  check-starts index same full clear = record { within = omega arith; linked = linked-none store index (same ∙ full) clear; reads = λ s a n. refl }
+  check-starts small room index size cleared =
+      record { within = omega arith; few = omega arith; stands = omega arith; linked = linked-none store index size cleared; reads = λ s a n. refl }
 
-  -- The test r of entry i settles how the check goes on.
-  module _ (index : List ℕ) (i : ℕ) (c : Checking types attributes nodes store kept index i) (more : i < kept) {r : Bool}
-      (test : Tested types attributes nodes store i r) where
-    pub check-goes-on : not r ≡ false → (index′ : List ℕ) → Linked store (i + 1) index′ → Checking types attributes nodes store kept index′ (i + 1)
-    check-goes-on e index′ l = record {
-      within = omega arith;
-      linked = l;
-      reads = λ s a n. rw add-one (entry-read s store i (c .reads s a n) (sym (test s a n (c .reads s a n)) ∙ not-false r e));
-    }
+  -- The test of entry i settles how the check goes on.
+  module _ (index : List ℕ) (i : ℕ) (c : Checking types attributes nodes store kept index i) (more : i < kept) {r : Trial}
+      (test : EntryTested types attributes nodes store i index r) where
+    last : i < 1024
+    last = omega (arith, more, c .few)
 
-    check-stops : not r ≡ true → (s : Sheet) → s .attributes ≡ attributesIn types attributes → nodeCount s ≡ nodes → readEntries s kept [] store ≡ refused 10 at-place i
-    check-stops e s a n = entry-refused s store i (c .reads s a n) (sym (test s a n (c .reads s a n)) ∙ not-true r e) kept more
+    pub check-goes-on : (cell : ℕ) → r ≡ Passes cell → {index′ : List ℕ} → index′ ≡ planted index cell i → Checking types attributes nodes store kept index′ (i + 1)
+    unfolding isPassed
+    check-goes-on cell e written =
+        record {
+          within = omega arith;
+          few = c .few;
+          stands = c .stands;
+          linked = rw written
+              (linked-more store i index (c .linked) last (keyAt store i) refl (test .keyed cell e) (test .new cell e) cell (test .free cell e)
+              (omega (arith, more, c .stands)));
+          reads = λ s a n. rw add-one (entry-read s store i (c .reads s a n) (sym (test .answer s a n (c .reads s a n)) ∙ ap isPassed e));
+        }
 
-  module _ (index : List ℕ) (size : length index ≡ 2048) where
+    pub check-cell : (cell : ℕ) → r ≡ Passes cell → cell < 9216
+    check-cell cell e = free-small store i index (c .linked) last (keyAt store i) cell (test .free cell e)
+
+    check-stops : r ≡ Fails → (s : Sheet) → s .attributes ≡ attributesIn types attributes → nodeCount s ≡ nodes → readEntries s kept [] store ≡ refused 10 at-place i
+    unfolding isPassed
+    check-stops e s a n = entry-refused s store i (c .reads s a n) (sym (test .answer s a n (c .reads s a n)) ∙ ap isPassed e) kept more
+
+  module _ (index : List ℕ) (size : length index ≡ 9216) where
     refuses : (number place : ℕ) → ((s : Sheet) → s .attributes ≡ attributesIn types attributes → nodeCount s ≡ nodes → checkStore s store kept ≡ refused number at-place place)
         → StoreChecked types attributes nodes store kept index (Refused number place)
     unfolding storeCheckOf
@@ -104,8 +124,8 @@ module _ (types : List ℕ) (attributes nodes : ℕ) (store : List ℕ) (kept : 
           unfolding checkStore
           all-read s = rw (eq-eqb _ _ whole, le-leb _ _ small, le-leb _ _ room)
 
-          pub check-refuses : (i : ℕ) → Checking types attributes nodes store kept index i → i < kept → {r : Bool} → Tested types attributes nodes store i r
-              → not r ≡ true → StoreChecked types attributes nodes store kept index (Refused 10 i)
+          pub check-refuses : (i : ℕ) → Checking types attributes nodes store kept index i → i < kept → {r : Trial} → EntryTested types attributes nodes store i index r
+              → r ≡ Fails → StoreChecked types attributes nodes store kept index (Refused 10 i)
           check-refuses i c more test e = refuses 10 i λ s a n. all-read s ∙ check-stops index i c more test e s a n
 
           pub check-accepts : (i : ℕ) → Checking types attributes nodes store kept index i → kept ≤ i → StoreChecked types attributes nodes store kept index Accepted

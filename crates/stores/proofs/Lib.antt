@@ -1,5 +1,7 @@
 pub mod Parts
-pub mod Chains
+pub mod Searches
+pub mod Digits
+pub mod Walks
 pub mod ByKey
 pub mod Written
 pub mod Checks

@@ -1,12 +1,17 @@
 -- Parts of a list, and where the numbers of entries stand.
 use mathlib.Core.List.{List, [], _∷_}
 use mathlib.Core.Path.{_≡_, refl, sym, _∙_, ap}
-use Prim.Native.Nat.{ℕ, zero, suc, _+_, _*_, _≤_, _<_}
+use Prim.Native.Nat.{ℕ, zero, suc, _+_, _*_, _^_, _≤_, _<_}
 use native.Mathlib.Omega.{arith}
 use lib.ListN.{take, drop, getD}
 use lib.Seq.{take-take, drop-drop, getD-take, getD-drop}
+use mir.Syntax.{w8}
+use mir.Val.{Fits}
 use Rattle.saiga.specs.Values.{ofBytes}
 use Rattle.saiga.specs.Store.{fieldsOf}
+use Rattle.values.proofs.Bytes.{bytes-below}
+use Rattle.stores.specs.declared.Key.{Key}
+use Rattle.stores.specs.Walks.{Keyed}
 use Rattle.stores.specs.Keys.{fieldsAt, keyIn, keyAt}
 
 -- a part of a list's front is a part of the list
@@ -35,6 +40,25 @@ module _ (store : List ℕ) (j : ℕ) where
     parameter = (hw ∙ ap ofBytes (sym (part-at 4 4 (omega arith)))) i;
     value = (hv ∙ ap ofBytes (sym (part-at 8 4 (omega arith)))) i;
   }
+
+  -- What the bytes of an entry hold is a key of bytes.
+  keyed-bytes : ((i : ℕ) → Fits w8 (getD store i 0)) → Keyed (keyAt store j)
+  unfolding fieldsAt fieldsOf keyIn
+  keyed-bytes small =
+      let below : (at n : ℕ) → ofBytes (take n (drop at store)) < 256 ^ n = λ at n. bytes-below n (drop at store) (λ i. rw (getD-drop at store i 0) (small (at + i) .fits)) in
+      record {
+        node = rw (part-taken 0 2 12 (drop (12 * j) store) (omega arith)) (below (12 * j) 2);
+        attribute = rw (byte-at 2 (omega arith)) (small (12 * j + 2) .fits);
+        word = rw (part-at 4 4 (omega arith)) (below (12 * j + 4) 4);
+      }
+
+  pub keyed-read : (n a z w v : ℕ) → n ≡ ofBytes (take 2 (drop (12 * j) store)) → a ≡ getD store (12 * j + 2) 0 → z ≡ getD store (12 * j + 3) 0
+      → w ≡ ofBytes (take 4 (drop (12 * j + 4) store)) → v ≡ ofBytes (take 4 (drop (12 * j + 8) store))
+      → ((i : ℕ) → Fits w8 (getD store i 0)) → Keyed (keyIn record { node = n; attribute = a; fourth = z; parameter = w; value = v })
+  keyed-read n a z w v hn ha hz hw hv small = rw (fields-read n a z w v hn ha hz hw hv) (keyed-bytes small)
+
+pub keyed-as : {p q : Key} → q ≡ p → Keyed p → Keyed q
+keyed-as e keyed = rw e keyed
 
 -- The first k entries stand in the first 12 * k bytes.
 key-taken : (store : List ℕ) (k j : ℕ) → j < k → keyAt (take (12 * k) store) j ≡ keyAt store j

@@ -1,18 +1,24 @@
 -- An entry is written: the store that a call leaves grows by it, and the entries before it stay.
 use mathlib.Core.List.{List, [], _∷_, _++_, append-assoc, append-nil}
+use mathlib.Core.Option.{none}
 use mathlib.Core.Path.{_≡_, refl, sym, _∙_, ap}
-use Prim.Native.Nat.{ℕ, _+_, _*_, _≤_}
+use Prim.Native.Nat.{ℕ, _+_, _*_, _≤_, _<_}
 use native.Mathlib.Numerals.{towards-suc}
 use native.Mathlib.Omega.{arith}
 use lib.ListN.{length, take, drop, set, length-append, length-take, length-drop}
-use lib.Seq.{sets, sets-eq, length-take-le, take-at, drop-append-le, drop-append-add, drop-drop}
+use lib.Seq.{sets, sets-eq, length-take-le, take-at, drop-at, drop-append-le, drop-append-add, drop-drop}
 use Rattle.saiga.specs.Values.{toBytes}
 use Rattle.saiga.specs.Caching.{Entry}
 use Rattle.saiga.specs.declared.Fields.{Fields}
-use Rattle.saiga.specs.Store.{fieldBytes, entryBytes, entriesBytes, leftStore}
+use Rattle.saiga.specs.Store.{fieldBytes, fieldsOf, fieldsFor, entryBytes, entriesBytes, leftStore}
+use Rattle.saiga.proofs.FourBytes.{bytes-trip}
 use Rattle.saiga.proofs.Entries.{entry-length, entries-length}
-use Rattle.stores.specs.Keys.{putAt, Linked}
-use Rattle.stores.proofs.Chains.{linked-same}
+use Rattle.stores.specs.declared.Key.{Key}
+use Rattle.stores.specs.Walks.{Keyed, Free, planted}
+use Rattle.stores.specs.Keys.{fieldsAt, keyIn, keyAt, findKey, recordOf, putAt, Linked, EntryPut}
+use Rattle.stores.proofs.Parts.{key-same}
+use Rattle.stores.proofs.Searches.{find-none, none-has}
+use Rattle.stores.proofs.Walks.{free-small, linked-same, linked-more}
 
 fields-length : (f : Fields) → length (fieldBytes f) ≡ 12
 unfolding fieldBytes toBytes
@@ -28,6 +34,14 @@ module _ (store : List ℕ) (k : ℕ) (fits : 12 * k + 12 ≤ length store) wher
     unfolding putAt
     put-before = rw append-assoc (sym (take-at (take (12 * k) store) _ (12 * k) (length-take-le (12 * k) store (omega arith))))
 
+    put-there : take 12 (drop (12 * k) (putAt store k (fieldBytes f))) ≡ fieldBytes f
+    unfolding putAt
+    put-there =
+        let rest = drop (12 * k + 12) store in
+        let front : length (take (12 * k) store) ≡ 12 * k = length-take-le (12 * k) store (omega arith) in
+        rw (append-assoc (take (12 * k) store) (fieldBytes f) rest, drop-at (take (12 * k) store) (fieldBytes f ++ rest) (12 * k) front)
+        (take-at (fieldBytes f) rest 12 (fields-length f))
+
     -- The code writes an entry's parts one after the other.
     module _ {noded parametered valued : List ℕ} (n : noded ≡ sets store (12 * k) (toBytes 2 (f .node)))
         (p : parametered ≡ sets (set (set noded (12 * k + 2) (f .attribute)) (12 * k + 3) (f .fourth)) (12 * k + 4) (toBytes 4 (f .parameter)))
@@ -40,8 +54,43 @@ module _ (store : List ℕ) (k : ℕ) (fits : 12 * k + 12 ≤ length store) wher
       written-length = ap length written ∙ put-length
 
     -- The index over the entries before it stays one.
-    pub linked-put : {put : List ℕ} → put ≡ putAt store k (fieldBytes f) → (index : List ℕ) → Linked store k index → Linked put k index
-    linked-put e index l = rw e (linked-same store (putAt store k (fieldBytes f)) k put-before index (rw put-length (l .stands)) l)
+    linked-put : (index : List ℕ) → Linked store k index → Linked (putAt store k (fieldBytes f)) k index
+    linked-put index l = linked-same store (putAt store k (fieldBytes f)) k put-before index (rw put-length (l .stands)) l
+
+-- ---- An entry is written, and put into the index
+
+module _ (store : List ℕ) (k : ℕ) (few : k < 1024) (fits : 12 * k + 12 ≤ length store) (index : List ℕ) (l : Linked store k index) (q : Key) (keyed : Keyed q)
+    (new : findKey store k q ≡ none) (cell : ℕ) (free : Free index q cell) where
+  pub planted-cell : cell < 9216
+  planted-cell = free-small store k index l few q cell free
+
+  module _ (value : ℕ) where
+    abbrev fields : Fields
+    fields = fieldsFor (q .node) (q .attribute) (q .word) value
+
+    abbrev put : List ℕ
+    put = putAt store k (fieldBytes fields)
+
+    -- The entry that was written has the key.
+    record-trips : keyIn (fieldsOf (fieldBytes fields)) ≡ q
+    unfolding keyIn fieldsOf fieldBytes fieldsFor toBytes
+    record-trips i = record { node = bytes-trip 2 (q .node) (keyed .node) i; attribute = q .attribute; word = bytes-trip 4 (q .word) (keyed .word) i }
+
+    key-put : keyAt put k ≡ q
+    unfolding fieldsAt
+    key-put = rw (put-there store k fits fields) record-trips
+
+    new-put : findKey put k q ≡ none
+    new-put = find-none put k q (λ j h has. none-has store k q new j h (key-same store put k j (put-before store k fits fields) h ∙ has))
+
+    pub entry-put : {put′ index′ : List ℕ} → put′ ≡ putAt store k (fieldBytes record { node = q .node; attribute = q .attribute; fourth = 0; parameter = q .word; value = value }) → index′ ≡ planted index cell k
+        → EntryPut store k q value put′ index′
+    unfolding recordOf fieldsFor
+    entry-put written linked =
+        record {
+          bytes = written;
+          linked = rw (written, linked) (linked-more put k index (linked-put store k fits fields index l) few q key-put keyed new-put cell free (rw (put-length store k fits fields) fits));
+        }
 
 -- ---- The store that a call leaves
 

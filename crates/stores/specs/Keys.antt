@@ -1,12 +1,12 @@
--- The entries of a store by their keys, and the chains of an index over them.
-use mathlib.Core.Bool.{Bool, _&&_, cond}
+-- The entries of a store by their keys, and an index over them.
+use mathlib.Core.Bool.{Bool, true, false, _&&_, cond}
 use mathlib.Core.List.{List, [], _∷_, _++_}
 use mathlib.Core.Option.{Option, none, some}
 use mathlib.Core.Path.{_≡_}
-use Prim.Native.Nat.{ℕ, zero, suc, _+_, _*_, _/_, _%_, _<_, _≤_}
+use Prim.Native.Nat.{ℕ, zero, suc, _+_, _*_, _<_, _≤_}
 use lib.Dec.{eqb}
 use lib.ListN.{length, take, drop, getD}
-use Rattle.saiga.specs.Limits.{attributeLimit, entryWidth, entryLimit}
+use Rattle.saiga.specs.Limits.{entryWidth, entryLimit}
 use Rattle.saiga.specs.Values.{Base, ofWord, toWord}
 use Rattle.saiga.specs.declared.Value.{Value}
 use Rattle.saiga.specs.Sheet.{Sheet, nodeCount, Checked, refused_at-place_, accepted}
@@ -14,10 +14,15 @@ use Rattle.values.specs.Layout.{attributesIn}
 use Rattle.saiga.specs.Terms.{Occurrence}
 use Rattle.saiga.specs.Caching.{Entry}
 use Rattle.saiga.specs.declared.Fields.{Fields}
-use Rattle.saiga.specs.Store.{fieldBytes, fieldsOf, fieldsFor, entryOf, checkStore}
+use Rattle.saiga.specs.Store.{fieldBytes, fieldsOf, fieldsFor, entryOf, isEntry, readEntries, checkStore}
 use Rattle.stores.specs.declared.Key.{Key}
+use Rattle.stores.specs.Walks.{bucketCount, fanOut, firstCell, cellOf, Keyed, bucketOf, trailOf, digitAt, Agree, walk, Passes, Free}
 use Rattle.stores.specs.declared.Found.{Found}
 use Rattle.stores.specs.declared.Found.the-variants.{At, Nothing}
+use Rattle.stores.specs.declared.Seen.{Seen}
+use Rattle.stores.specs.declared.Seen.the-variants.{Empty, Has, Other}
+use Rattle.stores.specs.declared.Trial.{Trial}
+use Rattle.stores.specs.declared.Trial.the-variants as trial
 use Rattle.stores.specs.declared.StoreCheck.{StoreCheck}
 use Rattle.stores.specs.declared.StoreCheck.the-variants.{Refused, Accepted}
 
@@ -44,9 +49,19 @@ unfoldable pub findKey : List ℕ → ℕ → Key → Option ℕ
 findKey store zero q = none
 findKey store (suc k) q = cond (sameKey (keyAt store k) q) (some k) (findKey store k q)
 
-unfoldable pub foundOf : Option ℕ → Found
-foundOf none = Nothing
-foundOf (some j) = At j
+-- what the code found: an entry, or the cell where one with the key would stand in the index
+unfoldable pub foundOf : Found → Option ℕ
+foundOf (At j) = some j
+foundOf (Nothing cell) = none
+
+abbrev pub FreeIn : List ℕ → Key → Found → Type 0
+FreeIn index q (At j) = Unit {0}
+FreeIn index q (Nothing cell) = Free index q cell
+
+-- what the code sees at a cell of the index: nothing, an entry with the key, or one with another
+unfoldable pub seenIn : List ℕ → Key → ℕ → Seen
+seenIn store q zero = Empty
+seenIn store q (suc j) = cond (sameKey (keyAt store j) q) (Has j) (Other j)
 
 -- ---- Entries
 
@@ -75,30 +90,52 @@ recordOf q value = fieldBytes (fieldsFor (q .node) (q .attribute) (q .word) valu
 unfoldable pub putAt : List ℕ → ℕ → List ℕ → List ℕ
 putAt store k bytes = take (entryWidth * k) store ++ bytes ++ drop (entryWidth * k + entryWidth) store
 
--- ---- The index: buckets, and for each entry its forerunner in its bucket. Numbers stand one higher, and 0 for none.
+-- ---- The index
 
-abbrev pub bucketCount : ℕ
-bucketCount = 1024
-
+-- its buckets, and eight cells for each entry that can be kept
 abbrev pub linksSize : ℕ
-linksSize = 2048
+linksSize = 9216
 
-unfoldable pub bucketOf : Key → ℕ
-bucketOf q = ((q .node * attributeLimit + q .attribute) * 37190065 + q .word * 40503) / 65536 % bucketCount
+-- Entry j stands in a bucket: it is one of the bucket's entries, with no other above it.
+pub record First (store : List ℕ) (depth : ℕ → ℕ) (b j : ℕ) : Type 0 where
+  pub no-deeper : depth j ≡ 0
+  pub bucket : bucketOf (keyAt store j) ≡ b
 
--- the last of the first k entries in a bucket, and one; or 0
-unfoldable pub lastIn : List ℕ → ℕ → ℕ → ℕ
-lastIn store zero b = 0
-lastIn store (suc k) b = cond (eqb (bucketOf (keyAt store k)) b) (suc k) (lastIn store k b)
+-- Entry j stands in the cell of entry i for a digit: in its bucket, deeper by one, with the digits that lead to i, and then this one.
+pub record Below (store : List ℕ) (depth : ℕ → ℕ) (i digit j : ℕ) : Type 0 where
+  pub deeper : depth j ≡ suc (depth i)
+  pub bucket : bucketOf (keyAt store j) ≡ bucketOf (keyAt store i)
+  pub agree : Agree (trailOf (keyAt store j)) (trailOf (keyAt store i)) (depth i)
+  pub next : digitAt (trailOf (keyAt store j)) (depth i) ≡ digit
 
+-- The index has the first k entries: their keys differ, and the walk of its key comes to each of them, at its depth.
 pub record Linked (store : List ℕ) (k : ℕ) (index : List ℕ) : Type 0 where
   pub size : length index ≡ linksSize
   pub few : k ≤ entryLimit
   pub stands : entryWidth * k ≤ length store
-  pub heads : (b : ℕ) → b < bucketCount → getD index b 0 ≡ lastIn store k b
-  pub forerunners : (j : ℕ) → j < k → getD index (bucketCount + j) 0 ≡ lastIn store j (bucketOf (keyAt store j))
+  pub keyed : (j : ℕ) → j < k → Keyed (keyAt store j)
+  pub differ : (i j : ℕ) → i < k → j < k → keyAt store i ≡ keyAt store j → i ≡ j
+  pub within : (c : ℕ) → c < firstCell k → getD index c 0 ≤ k
+  pub depth : ℕ → ℕ
+  pub passes : (j : ℕ) → j < k → Passes index (keyAt store j) (depth j)
+  pub reached : (j : ℕ) → j < k → getD index (walk index (keyAt store j) (depth j)) 0 ≡ suc j
+  pub heads : (b j : ℕ) → b < bucketCount → getD index b 0 ≡ suc j → First store depth b j
+  pub below : (i digit j : ℕ) → i < k → digit < fanOut → getD index (cellOf i digit) 0 ≡ suc j → Below store depth i digit j
 
 -- ---- The check
+
+-- what the code answers of an entry
+unfoldable pub isPassed : Trial → Bool
+isPassed (trial.Passes cell) = true
+isPassed trial.Fails = false
+
+-- What the test of entry i answers, for every sheet of these attributes and nodes on which those before it pass; and the free cell for its key.
+pub record EntryTested (types : List ℕ) (attributes nodes : ℕ) (store : List ℕ) (i : ℕ) (index : List ℕ) (r : Trial) : Type 0 where
+  pub answer : (s : Sheet) → s .attributes ≡ attributesIn types attributes → nodeCount s ≡ nodes → readEntries s i [] store ≡ accepted (entriesIn s store i)
+      → isPassed r ≡ isEntry s (entriesIn s store i) (take entryWidth (drop (entryWidth * i) store))
+  pub keyed : (cell : ℕ) → r ≡ trial.Passes cell → Keyed (keyAt store i)
+  pub new : (cell : ℕ) → r ≡ trial.Passes cell → findKey store i (keyAt store i) ≡ none
+  pub free : (cell : ℕ) → r ≡ trial.Passes cell → Free index (keyAt store i) cell
 
 -- what the code answers of a store
 unfoldable pub storeCheckOf : Checked (List Entry) → StoreCheck

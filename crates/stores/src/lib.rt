@@ -1,18 +1,20 @@
 // The store: its checks, and an index over the kept entries, by which an occurrence is found (document 01, "The steps", stops 9 and 10).
 use saiga::Fields;
-use saiga::limits::ATTRIBUTE_LIMIT;
 use saiga::limits::ENTRY_LIMIT;
 use saiga::limits::ENTRY_WIDTH;
 use saiga::limits::STORE_LIMIT;
 ghost use mathlib.Core.List.{[]};
+ghost use mathlib.Core.Option.{none};
 ghost use mathlib.Core.Path.{_≡_};
-ghost use Prim.Native.Nat.{ℕ, _+_, _*_, _≤_, _<_};
+ghost use Prim.Native.Nat.{ℕ, _+_, _*_, _%_, _≤_, _<_};
 ghost use lib.ListN.{length, take, drop, getD};
 ghost use Rattle.values.specs.Layout.{attributesIn};
 ghost use Rattle.saiga.specs.Limits.{entryWidth, entryLimit};
-ghost use Rattle.saiga.specs.Sheet.{Sheet, nodeCount, accepted};
-ghost use Rattle.saiga.specs.Store.{fieldBytes, isEntry, readEntries};
-ghost use Rattle.stores.specs.Keys.{bucketCount, linksSize, sameKey, fieldsAt, keyIn, keyAt, findKey, foundOf, entriesIn, valueWord, putAt, bucketOf, Linked, StoreChecked, EntryPut};
+ghost use Rattle.saiga.specs.Sheet.{Sheet, nodeCount};
+ghost use Rattle.saiga.specs.Store.{fieldBytes, isEntry};
+ghost use Rattle.stores.specs.Walks.{bucketCount, fanOut, cellOf, bucketOf, trailOf, Keyed, Free, emptied, planted};
+ghost use Rattle.stores.specs.declared.Seen.the-variants.{Other};
+ghost use Rattle.stores.specs.Keys.{linksSize, sameKey, fieldsAt, keyIn, keyAt, findKey, seenIn, foundOf, FreeIn, valueWord, putAt, Linked, EntryTested, StoreChecked, EntryPut};
 
 // An occurrence in numbers: its node, its attribute, and its parameter's four-byte form.
 pub struct Key {
@@ -21,19 +23,48 @@ pub struct Key {
     pub word: u32,
 }
 
-// The index: its buckets, and behind them a place for each entry that can be kept.
+// The index: its buckets, and behind them eight cells for each entry that can be kept, one for each digit in base 8. A cell holds the number of
+// an entry and one, or 0.
 const BUCKETS: usize = 1024;
 
-pub const LINKS_SIZE: usize = BUCKETS + ENTRY_LIMIT;
+const FAN_OUT: usize = 8;
+
+pub const LINKS_SIZE: usize = BUCKETS + FAN_OUT * ENTRY_LIMIT;
+
+// The digits of a trail, which lead through the index.
+const KEY_DIGITS: usize = 16;
+
+const BASE: u64 = FAN_OUT as u64;
+
+// How much an attribute and a parameter turn the buckets of the nodes round.
+const ATTRIBUTE_TURN: u64 = 2246822519;
+
+const WORD_TURN: u64 = 2654435769;
+
+const TURN: u64 = 4194304;
+
+// So much higher than the parameter the rest of a trail stands.
+const TRAIL_STEP: u64 = 8589934592;
 
 const BUCKETS_WIDE: u64 = BUCKETS as u64;
 
-const ATTRIBUTES: u64 = ATTRIBUTE_LIMIT as u64;
-
-// Where an entry with a key stands.
+// Where an entry with a key stands, or the free cell of the index where one would.
 pub enum Found {
     At(usize),
-    Nothing,
+    Nothing(usize),
+}
+
+// What is seen at a cell of the index by one who looks for a key: nothing, an entry with the key, or one with another.
+enum Seen {
+    Empty,
+    Has(usize),
+    Other(usize),
+}
+
+// Whether an entry passes, and then the free cell for it in the index.
+enum Trial {
+    Passes(usize),
+    Fails,
 }
 
 // Stop 9 or 10 with its place, or a store that passes.
@@ -51,7 +82,7 @@ fn wide(x: u8) -> u32
 // The numbers of entry i.
 fn entry_at(store: &[u8], i: usize) -> Fields
     requires { ⌜ entryWidth * i + entryWidth ≤ length (now store) ⌝ }
-    ensures { λ r. ⌜ r ≡ fieldsAt (now (store .entry)) i ⌝ }
+    ensures { λ r. ⌜ (r ≡ fieldsAt (now (store .entry)) i) × Keyed (keyIn r) ⌝ }
 {
     let at = ENTRY_WIDTH * i;
     Fields {
@@ -87,13 +118,23 @@ fn key_in(e: Fields) -> Key
     }
 }
 
-// The bucket of a key: any number below 1,024 would do.
+// The bucket of a key.
 fn bucket(key: Key) -> usize
+    requires { ⌜ Keyed key ⌝ }
     ensures { λ r. ⌜ (r ≡ bucketOf key) × (r < bucketCount) ⌝ }
 {
-    let h = (key.node as u64 * ATTRIBUTES + key.attribute as u64) * 37190065
-        + key.word as u64 * 40503;
-    (h / 65536 % BUCKETS_WIDE) as usize
+    let turn = (key.attribute as u64 * ATTRIBUTE_TURN + key.word as u64 * WORD_TURN) / TURN;
+    ((key.node as u64 + turn) % BUCKETS_WIDE) as usize
+}
+
+// The trail of a key: what its bucket does not tell.
+fn trail(key: Key) -> u64
+    requires { ⌜ Keyed key ⌝ }
+    ensures { λ r. ⌜ r ≡ trailOf key ⌝ }
+{
+    key.word as u64
+        + key.attribute as u64
+        + TRAIL_STEP * (key.attribute as u64 + 256 * (key.node as u64 / BUCKETS_WIDE))
 }
 
 // Whether entry i has a key.
@@ -111,43 +152,94 @@ fn has_key(store: &[u8], i: usize, key: Key) -> bool
     e.parameter == key.word
 }
 
-// The entry with a key among the first `kept`.
-pub fn find(store: &[u8], kept: usize, index: &[u32], key: Key) -> Found
-    requires { ⌜ Linked (now store) kept (now index) ⌝ }
-    ensures { λ r. ⌜ r ≡ foundOf (findKey (now (store .entry)) kept key) ⌝ }
+// The cell of entry j for the lowest digit of what is left of a key.
+fn cell_below(j: usize, rest: u64) -> usize
+    requires { ⌜ j < entryLimit ⌝ }
+    ensures { λ r. ⌜ r ≡ cellOf j (rest % fanOut) ⌝ }
+{
+    BUCKETS + FAN_OUT * j + (rest % BASE) as usize
+}
+
+// What stands at a cell of the index.
+fn look(store: &[u8], index: &[u16], cell: usize, key: Key) -> Seen
+    requires { ⌜ (cell < length (now index)) × (entryWidth * getD (now index) cell 0 ≤ length (now store)) ⌝ }
+    ensures { λ r. ⌜ r ≡ seenIn (now (store .entry)) key (getD (now (index .entry)) cell 0) ⌝ }
+{
+    let i = index[cell] as usize;
+    if i == 0 {
+        return Seen::Empty;
+    }
+    let j = i - 1;
+    if has_key(store, j, key) {
+        Seen::Has(j)
+    } else {
+        Seen::Other(j)
+    }
+}
+
+// The entry with a key, below the first of its bucket, which has another. The loop sees 16 entries at most, one for each digit of the trail.
+fn find_below(store: &[u8], kept: usize, index: &[u16], key: Key, first: usize) -> Found
+    requires { ⌜ Linked (now store) kept (now index) × Keyed key ⌝ }
+    requires { ⌜ seenIn (now store) key (getD (now index) (bucketOf key) 0) ≡ Other first ⌝ }
+    ensures { λ r. ⌜ foundOf r ≡ findKey (now (store .entry)) kept key ⌝ }
+    ensures { λ r. ⌜ FreeIn (now (index .entry)) key r ⌝ }
+{
+    let whole = trail(key);
+    let mut cell = cell_below(first, whole);
+    let mut rest = whole / BASE;
+    let mut passed = 1;
+    while passed <= KEY_DIGITS {
+        match look(store, index, cell, key) {
+            Seen::Empty => {
+                return Found::Nothing(cell);
+            }
+            Seen::Has(j) => {
+                return Found::At(j);
+            }
+            Seen::Other(j) => {
+                cell = cell_below(j, rest);
+                rest = rest / BASE;
+                passed += 1;
+            }
+        }
+    }
+    // An entry that has the bucket and every digit of the key has the key, so this is never reached.
+    Found::Nothing(cell)
+}
+
+// The entry with a key among the first `kept`. Most walks end at the first entry of the bucket, for which no trail is worked out.
+pub fn find(store: &[u8], kept: usize, index: &[u16], key: Key) -> Found
+    requires { ⌜ Linked (now store) kept (now index) × Keyed key ⌝ }
+    ensures { λ r. ⌜ foundOf r ≡ findKey (now (store .entry)) kept key ⌝ }
+    ensures { λ r. ⌜ FreeIn (now (index .entry)) key r ⌝ }
 {
     let b = bucket(key);
-    let mut i = index[b] as usize;
-    while 0 < i {
-        let j = i - 1;
-        if has_key(store, j, key) {
-            return Found::At(j);
-        }
-        i = index[BUCKETS + j] as usize;
+    match look(store, index, b, key) {
+        Seen::Empty => Found::Nothing(b),
+        Seen::Has(j) => Found::At(j),
+        Seen::Other(j) => find_below(store, kept, index, key, j),
     }
-    Found::Nothing
 }
 
-// Entry `kept`, whose bytes stand in the store already, is put into the index.
-fn link(store: &[u8], kept: usize, index: &mut [u32])
-    requires { ⌜ (kept < entryLimit) × (entryWidth * kept + entryWidth ≤ length (now store)) × Linked (now store) kept (now index) ⌝ }
-    ensures { λ _. ⌜ Linked (now (store .entry)) (kept + 1) (now (index .exit)) ⌝ }
+// `count` cells of the index from `from` on are emptied.
+fn clear(index: &mut [u16], from: usize, count: usize)
+    requires { ⌜ from + count ≤ length (now index) ⌝ }
+    ensures { λ _. ⌜ now (index .exit) ≡ emptied (now (index .entry)) from count ⌝ }
 {
-    let b = bucket(key_in(entry_at(store, kept)));
-    index[BUCKETS + kept] = index[b];
-    index[b] = (kept + 1) as u32;
+    let mut n = 0;
+    while n < count {
+        index[from + n] = 0;
+        n += 1;
+    }
 }
 
-// An index of no entries.
-fn clear(index: &mut [u32])
-    requires { ⌜ length (now index) ≡ linksSize ⌝ }
-    ensures { λ _. ⌜ ((b : ℕ) → b < bucketCount → getD (now (index .exit)) b 0 ≡ 0) ⌝ }
+// Entry `kept` is put into a free cell of the index, and its own cells are emptied.
+fn plant(index: &mut [u16], cell: usize, kept: usize)
+    requires { ⌜ (length (now index) ≡ linksSize) × (kept < entryLimit) × (cell < linksSize) ⌝ }
+    ensures { λ _. ⌜ now (index .exit) ≡ planted (now (index .entry)) cell kept ⌝ }
 {
-    let mut b = 0;
-    while b < BUCKETS {
-        index[b] = 0;
-        b += 1;
-    }
+    clear(index, BUCKETS + FAN_OUT * kept, FAN_OUT);
+    index[cell] = (kept + 1) as u16;
 }
 
 // Whether entry i is one of the sheet's, leaving aside whether its occurrence was kept before: declared node and attribute, a zero byte,
@@ -174,27 +266,25 @@ fn is_entry(types: &[u8], attributes: usize, nodes: usize, store: &[u8], i: usiz
     values::is_word(nodes, values::result_at(types, a), e.value)
 }
 
-// Whether entry i passes, the ones before it being in the index.
-fn passes(
+// The test of entry i, the ones before it being in the index.
+fn test(
     types: &[u8],
     attributes: usize,
     nodes: usize,
     store: &[u8],
     i: usize,
-    index: &[u32],
-) -> bool
+    index: &[u16],
+) -> Trial
     requires { ⌜ (3 * attributes ≤ length (now types)) × (entryWidth * i + entryWidth ≤ length (now store)) × Linked (now store) i (now index) ⌝ }
-    ensures { λ r. ⌜ ((s : Sheet) → s .attributes ≡ attributesIn (now (types .entry)) attributes → nodeCount s ≡ nodes
-        → readEntries s i [] (now (store .entry)) ≡ accepted (entriesIn s (now (store .entry)) i)
-        → r ≡ isEntry s (entriesIn s (now (store .entry)) i) (take entryWidth (drop (entryWidth * i) (now (store .entry))))) ⌝ }
+    ensures { λ r. ⌜ EntryTested (now (types .entry)) attributes nodes (now (store .entry)) i (now (index .entry)) r ⌝ }
 {
     if !is_entry(types, attributes, nodes, store, i) {
-        return false;
+        return Trial::Fails;
     }
-    let Found::At(_) = find(store, i, index, key_in(entry_at(store, i))) else {
-        return true;
-    };
-    false
+    match find(store, i, index, key_in(entry_at(store, i))) {
+        Found::At(_) => Trial::Fails,
+        Found::Nothing(cell) => Trial::Passes(cell),
+    }
 }
 
 // Stops 9 and 10. The index of a store that passes has all its kept entries.
@@ -204,7 +294,7 @@ pub fn check(
     nodes: usize,
     store: &[u8],
     kept: usize,
-    index: &mut [u32],
+    index: &mut [u16],
 ) -> StoreCheck
     requires { ⌜ (3 * attributes ≤ length (now types)) × (length (now index) ≡ linksSize) ⌝ }
     ensures { λ r. ⌜ StoreChecked (now (types .entry)) attributes nodes (now (store .entry)) kept (now (index .exit)) r ⌝ }
@@ -218,13 +308,13 @@ pub fn check(
     if store.len() / ENTRY_WIDTH < kept {
         return StoreCheck::Refused(9, 0);
     }
-    clear(index);
+    clear(index, 0, BUCKETS);
     let mut i = 0;
     while i < kept {
-        if !passes(types, attributes, nodes, store, i, index) {
+        let Trial::Passes(cell) = test(types, attributes, nodes, store, i, index) else {
             return StoreCheck::Refused(10, i);
-        }
-        link(store, i, index);
+        };
+        plant(index, cell, i);
         i += 1;
     }
     StoreCheck::Accepted
@@ -238,9 +328,10 @@ pub fn value_word(store: &[u8], i: usize) -> u32
     entry_at(store, i).value
 }
 
-// Entry `kept` is written, and put into the index.
-pub fn append(store: &mut [u8], kept: usize, index: &mut [u32], key: Key, value: u32)
-    requires { ⌜ (kept < entryLimit) × (entryWidth * kept + entryWidth ≤ length (now store)) × (key .attribute < 256) × Linked (now store) kept (now index) ⌝ }
+// Entry `kept` is written, and put into the index at the free cell of its key.
+pub fn append(store: &mut [u8], kept: usize, index: &mut [u16], key: Key, value: u32, cell: usize)
+    requires { ⌜ (kept < entryLimit) × (entryWidth * kept + entryWidth ≤ length (now store)) × Linked (now store) kept (now index) ⌝ }
+    requires { ⌜ Keyed key × (findKey (now store) kept key ≡ none) × Free (now index) key cell ⌝ }
     ensures { λ _. ⌜ EntryPut (now (store .entry)) kept key value (now (store .exit)) (now (index .exit)) ⌝ }
 {
     let e = Fields {
@@ -251,5 +342,5 @@ pub fn append(store: &mut [u8], kept: usize, index: &mut [u32], key: Key, value:
         value,
     };
     put_entry(store, kept, e);
-    link(store, kept, index);
+    plant(index, cell, kept);
 }

@@ -1,7 +1,8 @@
 -- The bytes at a place of a list, as a number: the first, and 256 times the number of those after it.
-use mathlib.Core.List.{List}
+use mathlib.Core.List.{List, [], _∷_}
 use mathlib.Core.Path.{_≡_}
-use Prim.Native.Nat.{ℕ, suc, _+_, _*_, _/_, _%_, _≤_, _<_}
+use Prim.Native.Nat.{ℕ, zero, suc, _+_, _*_, _/_, _%_, _^_, _≤_, _<_}
+use native.Mathlib.Nat.{pow-zero}
 use native.Mathlib.Numerals.{towards-suc}
 use native.Mathlib.Omega.{arith}
 use lib.ListN.{length, getD, take, drop, set}
@@ -11,6 +12,12 @@ use Rattle.saiga.specs.Values.{ofBytes, toBytes}
 pub bytes-at : (k : ℕ) (l : List ℕ) (at : ℕ) → at < length l → ofBytes (take (suc k) (drop at l)) ≡ getD l at 0 + 256 * ofBytes (take k (drop (suc at) l))
 unfolding ofBytes
 bytes-at k l at h = rw (drop-cons l at 0 h)
+
+pub bytes-below : (n : ℕ) (l : List ℕ) → ((i : ℕ) → getD l i 0 < 256) → ofBytes (take n l) < 256 ^ n
+unfolding ofBytes
+bytes-below zero l h = omega (arith, pow-zero 256)
+bytes-below (suc n) [] h = omega (arith, bytes-below n [] h)
+bytes-below (suc n) (b ∷ l) h = omega (arith, h 0, bytes-below n l λ i. h (suc i))
 
 module _ (l : List ℕ) (at : ℕ) where
   -- The bytes, read one by one.

@@ -21,7 +21,7 @@ pub type Found = (u32, u64);
 /// How many words a checked sheet has.
 const SHEET: usize = 33_282;
 /// How many words a checked store has.
-const STORE: usize = 2_048;
+const STORE: usize = 9_216;
 /// How many words a run has.
 const RUN: usize = 16_896;
 
@@ -38,7 +38,7 @@ pub struct CheckedSheet {
 /// What the check of a store leaves for the questions that are lent it.
 #[derive(Clone)]
 pub struct CheckedStore {
-    words: Box<[u32; STORE]>,
+    words: Box<[u16; STORE]>,
 }
 
 /// What a run works in.
@@ -99,7 +99,7 @@ extern "C" {
         kept: u64,
         budget: u64,
         checked_sheet: *mut [u32; SHEET],
-        checked_store: *mut [u32; STORE],
+        checked_store: *mut [u16; STORE],
         run: *mut [u64; RUN],
         answer: *mut [i64; 6],
     );
@@ -118,7 +118,7 @@ extern "C" {
         store: *const u8,
         store_len: usize,
         kept: u64,
-        checked_store: *mut [u32; STORE],
+        checked_store: *mut [u16; STORE],
         place: *mut u64,
     ) -> u32;
 
@@ -132,7 +132,7 @@ extern "C" {
         store_len: usize,
         kept: u64,
         budget: u64,
-        checked_store: *mut [u32; STORE],
+        checked_store: *mut [u16; STORE],
         run: *mut [u64; RUN],
         answer: *mut [i64; 6],
     );

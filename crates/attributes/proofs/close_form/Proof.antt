@@ -1,6 +1,6 @@
 -- `attributes::close_form` meets its contract: it reads the numbers of the innermost form, and CacheWrite does the rest.
 use borrow.Author.Needs.{needs}
-use Rattle.attributes.proofs.CacheWriteCases.{closes}
+use Rattle.attributes.proofs.CacheWriteCases.{form-keyed, closes}
 use Rattle.attributes.proofs.close_form.Statement.{statement}
 use Rattle.attributes.proofs.close_form.Tie as tie
 
@@ -20,7 +20,7 @@ close-form-spec =
     (λ c. search needs)
     (λ c. search needs)
     (λ c κs. search needs)
-    (λ c κs. search needs)
+    (λ c κs. search (needs, form-keyed))
     (λ c. search needs)  -- memory[f + 2]
     (λ c. search needs)
     (λ c. search needs)

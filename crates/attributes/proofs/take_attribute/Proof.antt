@@ -1,6 +1,6 @@
 -- `attributes::take_attribute` meets its contract: by whether the occurrence is found in the store.
 use borrow.Author.Needs.{needs}
-use Rattle.attributes.proofs.CacheWriteCases.{not-kept}
+use Rattle.attributes.proofs.CacheWriteCases.{not-kept, free-cell}
 use Rattle.attributes.proofs.Opening.{takes-definition, kept-within, kept-is-word, takes-kept, kept-answer-keeps}
 use Rattle.attributes.proofs.take_attribute.Statement.{statement}
 use Rattle.attributes.proofs.take_attribute.Tie as tie
@@ -11,20 +11,17 @@ take-attribute-spec =
     (tie.spec
     (λ c κs. search needs)
     (λ c. search needs)
-    (λ c. search needs)
-    (λ c κs.
-    let at-enum-told = c .before .before .before in  -- the definition
-    let at-find = at-enum-told .before .before in
-    (not-kept _ _ _ _ (at-enum-told .enum-told .given .1) (at-find .find .ensures), search needs))
-    (λ c. search needs)
-    (λ c. search needs)
-    (λ c. search needs)
-    (λ c. search (needs, takes-definition))
     (λ c. search needs)  -- the kept value
     (λ c κs. search needs)
     (λ c κs. search kept-within)
     (λ c κs. search kept-is-word)
     (λ c κs. search needs)
     (λ c. search needs)
+    (λ c κs. (search (needs, not-kept, free-cell), search needs))  -- the definition
     (λ c. search needs)
-    (λ c. (search takes-kept, search kept-answer-keeps)))
+    (λ c. search needs)
+    (λ c. (search takes-kept, search kept-answer-keeps))
+    (λ c. search needs)
+    (λ c. search needs)
+    (λ c. search needs)
+    (λ c. search (needs, takes-definition)))

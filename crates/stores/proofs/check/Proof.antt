@@ -3,7 +3,7 @@
 use Prim.Native.Nat.{_-_}
 use native.Mathlib.Omega.{arith}
 use borrow.Author.Needs.{needs}
-use Rattle.stores.proofs.Checks.{part-left, too-long, too-many, Checking, check-starts, check-goes-on, check-refuses, check-accepts}
+use Rattle.stores.proofs.Checks.{part-left, too-long, too-many, Checking, check-starts, check-goes-on, check-cell, check-refuses, check-accepts}
 use Rattle.stores.proofs.check.Statement.{statement}
 use Rattle.stores.proofs.check.Tie as tie
 
@@ -26,8 +26,10 @@ check-spec =
     (λ c. search check-starts)
     (λ c κs. search needs)
     (λ c. search needs)
+    (λ c. search needs)
+    (λ c. search needs)
     (λ c. search check-refuses)
-    (λ c κs. search needs)
+    (λ c κs. search (needs, check-cell))
     (λ c. omega arith)
     (λ c. omega arith)
     (λ c. search check-goes-on)

@@ -1,15 +1,16 @@
--- `stores::clear` meets its contract. The loop's invariant: the buckets passed are empty (`Cleared`). The measure is what is left of the buckets.
+-- `stores::clear` meets its contract. The loop's invariant: the cells passed are emptied (`Emptying`). The measure is what is left of the cells.
 use Prim.Native.Nat.{_-_}
 use native.Mathlib.Omega.{arith}
-use Rattle.stores.proofs.Chains.{Cleared, cleared-none, cleared-more, cleared-all}
+use borrow.Author.Needs.{needs}
+use Rattle.stores.proofs.Walks.{Emptying, emptying-starts, emptying-goes-on, emptying-ends}
 use Rattle.stores.proofs.clear.Statement.{statement}
 use Rattle.stores.proofs.clear.Tie as tie
 
 abbrev Inv-loop : tie.InvT-loop
-Inv-loop index₀ b₀ index b = Cleared index b
+Inv-loop index₀ from count n₀ index n = Emptying index₀ from count index n
 
 abbrev μ-loop : tie.MeasureT-loop
-μ-loop index₀ b₀ index b = 1024 - b
+μ-loop index₀ from count n₀ index n = count - n
 
 pub clear-spec : {M : Type 1} → statement M
 clear-spec =
@@ -17,11 +18,12 @@ clear-spec =
     (tie.spec
     Inv-loop
     μ-loop
-    (λ c. search cleared-none)
+    (λ c. search emptying-starts)
+    (λ c. search needs)  -- index[from + n] = 0
+    (λ c. search needs)
+    (λ c. search needs)
+    (λ c. search needs)
     (λ c. omega arith)
-    (λ c. omega arith)
-    (λ c. omega arith)
-    (λ c. omega arith)
-    (λ c. search cleared-more)
-    (λ c. omega arith)
-    (λ c. search cleared-all))
+    (λ c. search emptying-goes-on)
+    (λ c. search needs)
+    (λ c. search emptying-ends))

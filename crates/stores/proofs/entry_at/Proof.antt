@@ -1,6 +1,6 @@
--- `stores::entry_at` meets its contract: the parts of twelve bytes are their numbers (`fields-read`).
+-- `stores::entry_at` meets its contract: the parts of twelve bytes are their numbers (`fields-read`), those of a key of bytes (`keyed-read`).
 use borrow.Author.Needs.{needs}
-use Rattle.stores.proofs.Parts.{fields-read}
+use Rattle.stores.proofs.Parts.{fields-read, keyed-read}
 use Rattle.stores.proofs.entry_at.Statement.{statement}
 use Rattle.stores.proofs.entry_at.Tie as tie
 
@@ -20,4 +20,4 @@ entry-at-spec =
     (λ c κs. search needs)
     (λ c. search needs)  -- the value
     (λ c κs. search needs)
-    (λ c. search fields-read))
+    (λ c. search (fields-read, keyed-read)))

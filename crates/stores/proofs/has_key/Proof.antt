@@ -1,6 +1,6 @@
 -- `stores::has_key` meets its contract: the three tests of a key, by the numbers of the entry.
 use borrow.Author.Needs.{needs}
-use Rattle.stores.proofs.Chains.{other-node, other-attribute, by-word}
+use Rattle.stores.proofs.Searches.{other-node, other-attribute, by-word}
 use Rattle.stores.proofs.has_key.Statement.{statement}
 use Rattle.stores.proofs.has_key.Tie as tie
 
