@@ -18,30 +18,8 @@ use Rattle.saiga.specs.Caching.{Entry, Counted}
 use Rattle.saiga.proofs.Inference.{cond-passes}
 use Rattle.engine.specs.Machine.{Next, by-move, by-step, Frame, on-if, on-left, on-skip, on-right, on-node, on-parameter, on-form, Mode, evaluating, returning, Machine, openForms, scopeIn, widthOf, passOver, Move, finishes, moves, takes, stops, readHead, within, branch, defined, applied, attributeDue, give, readNext, moveOf, move}
 use Rattle.engine.specs.Good.{Parses, Pieces, GoodAt, Good, inPiece, Waiting, Small}
-
--- ---- A measure
-
--- A byte weighs 4, a frame 1, and a value that waits to be given 1: so a head that is read pays for its frame, or for the value, and a
--- frame that turns into another pays by the value that it is given. A step of the budget pays for the bytes of a piece.
-unfoldable pub frameWeight : Frame → ℕ
-frameWeight on-if = 1
-frameWeight on-left = 1
-frameWeight on-skip = 1
-frameWeight (on-right v) = 1
-frameWeight (on-node a) = 1
-frameWeight (on-parameter v a) = 1
-frameWeight (on-form o outer) = 1 + 4 * length outer
-
-unfoldable pub framesWeight : List Frame → ℕ
-framesWeight [] = 0
-framesWeight (f ∷ fs) = frameWeight f + framesWeight fs
-
-unfoldable pub modeWeight : Mode → ℕ
-modeWeight evaluating = 0
-modeWeight (returning v) = 1
-
-unfoldable pub measure : ℕ → Machine → ℕ
-measure budget m = 1024 * (budget - m .steps) + 4 * length (m .rest) + framesWeight (m .frames) + modeWeight (m .mode)
+use Rattle.engine.specs.Decode.{frameLimit}
+use Rattle.engine.specs.Cost.{Moves, at-first, and-then, credit, credits, modeCredit, measure}
 
 -- ---- What every move keeps
 
@@ -50,22 +28,29 @@ room : Mode → ℕ
 room evaluating = 1
 room (returning v) = 0
 
+-- a move, and what comes after it, is paid for
+record Pays (budget : ℕ) (m m′ : Machine) : Type 0 where
+  pays : 1 + credits (m′ .frames) + modeCredit (m′ .mode) + 3 * length (m .frames) + 6 * m .steps
+      ≤ credits (m .frames) + modeCredit (m .mode) + 3 * length (m′ .frames) + 6 * m′ .steps
+  counts : m .steps ≤ m′ .steps
+  within : m′ .steps - budget ≤ m .steps - budget
+
 record Keeps (s : Sheet) (budget : ℕ) (m m′ : Machine) : Type 0 where
-  falls : Pieces s → Good s m → measure budget m′ < measure budget m
+  cost : Pays budget m m′
   small : Pieces s → Small m → Small m′
   forms : length (openForms (m .frames)) ≤ 64 → length (openForms (m′ .frames)) ≤ 64
   fit : length (m′ .frames) ≤ room (m .mode) + length (m .frames)
 
 -- most moves stay in the piece
 record Shrinks (budget : ℕ) (m m′ : Machine) : Type 0 where
-  falls : measure budget m′ < measure budget m
+  cost : Pays budget m m′
   small : inPiece (m′ .frames) + length (m′ .rest) ≤ inPiece (m .frames) + length (m .rest)
   forms : length (openForms (m′ .frames)) ≤ length (openForms (m .frames))
   fit : length (m′ .frames) ≤ room (m .mode) + length (m .frames)
 
 within-piece : {s : Sheet} {budget : ℕ} {m m′ : Machine} → Shrinks budget m m′ → (Waiting (m .frames) → Waiting (m′ .frames)) → Keeps s budget m m′
 within-piece k w =
-    record { falls = λ p g. k .falls; small = λ p h. (omega arith, w (h .1)); forms = λ n. omega arith; fit = k .fit }
+    record { cost = k .cost; small = λ p h. (omega arith, w (h .1)); forms = λ n. omega arith; fit = k .fit }
 
 abbrev Onward : (Machine → Type 0) → Move → Type 0
 Onward P (finishes v) = Unit {0}
@@ -106,12 +91,12 @@ module _ (s : Sheet) (capacity budget : ℕ) (entries : List Entry) (steps : ℕ
   -- a head with a value
   value-on : (c : ℕ) (l k : List ℕ) (fs : List Frame) (v : Value) → length k ≤ length l
       → Keeps s budget (state evaluating (c ∷ l) fs) (state (returning v) k fs)
-  unfolding measure modeWeight room
+  unfolding modeCredit room
   value-on c l k fs v h = within-piece (omega arith) (λ w. w)
 
   reads-on : (c : ℕ) (l : List ℕ) (fs : List Frame) (h : Head)
       → Keeps s budget (state evaluating (c ∷ l) fs) (readHead s capacity budget (state evaluating (c ∷ l) fs) h l)
-  unfolding readHead measure modeWeight framesWeight frameWeight room openForms
+  unfolding readHead credits credit modeCredit room openForms
   reads-on c l fs (base-literal t) = value-on c l _ fs _ (drop-shorter (operandWidth t) l)
   reads-on c l fs function-literal = value-on c l _ fs _ (drop-shorter 1 l)
   reads-on c l fs if-head = within-piece (omega arith) (λ w. w)
@@ -129,7 +114,7 @@ module _ (s : Sheet) (capacity budget : ℕ) (entries : List Entry) (steps : ℕ
 
   branch-on : (v : Value) (l : List ℕ) (fs : List Frame) (b : Bool)
       → Onward (Keeps s budget (state (returning v) l (on-if ∷ fs))) (branch s capacity budget (state (returning v) l (on-if ∷ fs)) b fs)
-  unfolding branch measure modeWeight framesWeight frameWeight room openForms
+  unfolding branch credits credit modeCredit room openForms
   branch-on v l fs true = within-on v l (on-if ∷ fs) _ _ λ b. within-piece (omega arith) (λ w. w)
   branch-on v l fs false =
       within-on v l (on-if ∷ fs) _ _ λ b. within-piece (omega (arith, pass-shorter (scopeIn s (openForms fs)) l)) (λ w. w)
@@ -140,12 +125,12 @@ module _ (s : Sheet) (capacity budget : ℕ) (entries : List Entry) (steps : ℕ
     before = state (returning v) l (on-parameter n a ∷ fs)
 
     defined-on : (o : Occurrence) (d : Definition) → definition s (o .node) (o .attribute) ≡ d → Keeps s budget before (defined s capacity budget before o fs d)
-    unfolding defined measure modeWeight framesWeight frameWeight room openForms
+    unfolding defined credits credit modeCredit room openForms
     defined-on o undefined e = within-piece (omega arith) (λ w. w)
     defined-on o (figure u) e = within-piece (omega arith) (λ w. w)
     defined-on o (piece-of p) e =
         record {
-          falls = λ ps g. omega (arith, short ps);
+          cost = omega arith;
           small = λ ps w. (omega (arith, short ps), w);
           forms = λ n. few;
           fit = omega arith;
@@ -155,13 +140,13 @@ module _ (s : Sheet) (capacity budget : ℕ) (entries : List Entry) (steps : ℕ
         short ps = let r = ps .whole (o .node) (o .attribute) p e in whole-short (ruleScope s) p (r .0) (r .1)
 
     applied-on : (o : Occurrence) (k : Option Value) → Keeps s budget before (applied s capacity budget before o fs k)
-    unfolding applied measure modeWeight framesWeight frameWeight room openForms
+    unfolding applied credits credit modeCredit room openForms
     applied-on o none = defined-on o _ refl
     applied-on o (some u) = within-piece (omega arith) (λ w. w)
 
   give-on : (v : Value) (l : List ℕ) (fs : List Frame)
       → Onward (Keeps s budget (state (returning v) l fs)) (give s capacity budget (state (returning v) l fs) v fs)
-  unfolding give attributeDue measure modeWeight framesWeight frameWeight room openForms
+  unfolding give attributeDue credits credit modeCredit room openForms
   give-on v l [] = tt
   give-on v l (on-if ∷ fs) = branch-on v l fs (truth v)
   give-on v l (on-left ∷ fs) = within-piece (omega arith) (λ w. w)
@@ -174,12 +159,12 @@ module _ (s : Sheet) (capacity budget : ℕ) (entries : List Entry) (steps : ℕ
       cond-onward _ (leb 64 (length (openForms fs))) _ _ (λ h. tt) λ few.
       applied-on v n a l fs (ltb-true steps budget b) (leb-false 64 _ few) _ _) (λ h. tt)
   give-on v l (on-form o outer ∷ fs) =
-      record { falls = λ p g. omega arith; small = λ p w. (omega arith, w .1 .1); forms = λ n. omega arith; fit = omega arith }
+      record { cost = omega arith; small = λ p w. (omega arith, w .1 .1); forms = λ n. omega arith; fit = omega arith }
 
   move-on : (mode : Mode) (l : List ℕ) (fs : List Frame) → Onward (Keeps s budget (state mode l fs)) (move s capacity budget (state mode l fs))
-  unfolding move moveOf readNext room
+  unfolding move moveOf readNext modeCredit room
   move-on evaluating [] fs =
-      record { falls = λ p g. absurd (nothing-parses (scopeIn s (openForms fs)) (g .0)); small = λ p w. w; forms = λ n. n; fit = omega arith }
+      record { cost = omega arith; small = λ p w. w; forms = λ n. n; fit = omega arith }
   move-on evaluating (c ∷ l) fs = reads-on c l fs (headOf c)
   move-on (returning v) l fs = give-on v l fs
 
@@ -193,16 +178,16 @@ next-on {s} {capacity} {budget} {m} n = go n
     go (by-move e) = rw e at on
     go (by-step r e) = rw e at on
 
-pub move-falls : {s : Sheet} {capacity budget : ℕ} {m m′ : Machine} → Pieces s → Good s m → Next s capacity budget m m′
-    → measure budget m′ < measure budget m
-move-falls p g n = next-on n .falls p g
-
 pub small-on : {s : Sheet} {capacity budget : ℕ} {m m′ : Machine} → Pieces s → Small m → Next s capacity budget m m′ → Small m′
 small-on p w n = next-on n .small p w
 
 pub forms-on : {s : Sheet} {capacity budget : ℕ} {m m′ : Machine} → length (openForms (m .frames)) ≤ 64 → Next s capacity budget m m′
     → length (openForms (m′ .frames)) ≤ 64
 forms-on h n = next-on n .forms h
+
+pub steps-on : {s : Sheet} {capacity budget : ℕ} {m m′ : Machine} → Next s capacity budget m m′ → m .steps ≤ budget
+    → (m .steps ≤ m′ .steps) × (m′ .steps ≤ budget)
+steps-on n h = let k = next-on n .cost in (k .counts, omega (arith, k .within))
 
 -- ---- Room for the frames
 
@@ -237,6 +222,30 @@ room-to-push s m g w few e =
     let good : GoodAt s evaluating (m .rest) (m .frames) = rw e at g in
     omega (arith, waiting-fit (m .frames) (w .1), parses-bytes _ (m .rest) (good .0))
 
+-- The frames after a move fit too: only an evaluating machine pushes.
+pub fit-on : {s : Sheet} {capacity budget : ℕ} {m m′ : Machine} → Good s m → Small m → length (openForms (m .frames)) ≤ 64
+    → Next s capacity budget m m′ → length (m′ .frames) ≤ frameLimit
+unfolding room
+fit-on {s} {m = m} {m′} g w few n = go (m .mode) refl
+  where
+    go : (mode : Mode) → m .mode ≡ mode → length (m′ .frames) ≤ frameLimit
+    go evaluating e = let f = rw e at (next-on n .fit) in omega (arith, room-to-push s m g w few e)
+    go (returning v) e = omega (arith, frames-on v e n, frames-fit m w)
+
 pub start-small : (m : Machine) → m .frames ≡ [] → length (m .rest) ≤ 256 → Small m × (length (openForms (m .frames)) ≡ 0)
 unfolding openForms
 start-small m e h = rw e ((omega arith, tt), refl)
+
+-- ---- The cost of a move
+
+-- so the measure falls
+pub move-falls : {s : Sheet} {capacity budget : ℕ} {m m′ : Machine} → Good s m → Small m → length (openForms (m .frames)) ≤ 64 → m .steps ≤ budget
+    → Next s capacity budget m m′ → measure budget m′ < measure budget m
+unfolding measure
+move-falls {m = m} g w few below n = let k = next-on n .cost in omega (arith, k, fit-on g w few n, frames-fit m w)
+
+pub moves-cost : {s : Sheet} {capacity budget n : ℕ} {first m : Machine} → Moves s capacity budget first n m
+    → (n + credits (m .frames) + modeCredit (m .mode) + 3 * length (first .frames) + 6 * first .steps
+    ≤ credits (first .frames) + modeCredit (first .mode) + 3 * length (m .frames) + 6 * m .steps)
+moves-cost at-first = omega arith
+moves-cost (and-then k n) = omega (arith, moves-cost k, next-on n .cost)

@@ -15,3 +15,4 @@ pub mod ReadyForCode
 pub mod Whole
 pub mod Left
 pub mod Loop
+pub mod Cost

@@ -22,14 +22,14 @@ use Rattle.saiga.specs.Ask.{lent, checkType, checkQuestion, asked, reasonNumber
 use Rattle.saiga.specs.Sound.{RunningIn, EntryIn, All}
 use Rattle.saiga.proofs.Accepted.{accepted-sheet}
 use Rattle.saiga.proofs.Entries.{store-in}
-use Rattle.saiga.proofs.RunEnds.{counted-within}
 use Rattle.saiga.proofs.Preservation.{put-in, DueIn, due-in}
 use Rattle.saiga.proofs.Calls.{question-runs, question-in}
 use Rattle.sheets.specs.Scan.{Indexed}
 use Rattle.engine.specs.RunningPiece.{pieceIn, restOf}
 use Rattle.engine.specs.Machine.{Machine, Next, by-move, by-step, openForms, stateOf}
 use Rattle.engine.specs.Good.{Pieces, Good}
-use Rattle.engine.proofs.Bounds.{measure, move-falls, small-on, start-small}
+use Rattle.engine.specs.Cost.{measure}
+use Rattle.engine.proofs.Bounds.{move-falls, small-on, steps-on, start-small}
 use Rattle.engine.proofs.Simulation.{Uncounted, same, written, simulates, good-on, runs-on}
 use Rattle.engine.proofs.Start.{start, question-start, pieces}
 use Rattle.engine.specs.Decode.{frameLimit, formsSize, sheetIn, sheetOf, entriesOf, framesIn, modeOf, machineOf}
@@ -138,22 +138,16 @@ module _ (s : Sheet) (bytes : List ℕ) (ok : checkSheet bytes ≡ accepted s) (
       subst (DueIn (nodeCount s) (s .attributes) T) e
       (due-in (nodeCount s) (s .attributes) (context s) (accepted-sheet bytes s ok .context-in) (st .entries) all (ltb (st .steps) budget) [] (st .term) T t)
 
-  uncounted-in : (st st′ : State) → Typed st → Uncounted s capacity budget st st′
-      → RunningIn (nodeCount s) (s .attributes) (st′ .term) T × (st′ .steps ≡ st .steps)
-  uncounted-in st st′ t (same is) = rw is (t .1, refl)
-  uncounted-in st st′ t (written e u d is) = rw is (is-due st t d .1, refl)
+  uncounted-in : (st st′ : State) → Typed st → Uncounted s capacity budget st st′ → RunningIn (nodeCount s) (s .attributes) (st′ .term) T
+  uncounted-in st st′ t (same is) = rw is (t .1)
+  uncounted-in st st′ t (written e u d is) = rw is (is-due st t d .1)
 
-  next-in : (M M′ : Machine) → Good s M → Typed (stateOf s M) → M .steps ≤ budget → Next s capacity budget M M′
-      → RunningIn (nodeCount s) (s .attributes) (stateOf s M′ .term) T × (M′ .steps ≤ budget)
+  next-in : (M M′ : Machine) → Good s M → Typed (stateOf s M) → Next s capacity budget M M′ → RunningIn (nodeCount s) (s .attributes) (stateOf s M′ .term) T
   unfolding stateOf
-  next-in M M′ good t within (by-move e) =
-      let (u, f) = uncounted-in (stateOf s M) (stateOf s M′) t (rw e at (simulates s capacity budget (pieces bytes s ok) M good)) in
-      (u, omega arith)
-  next-in M M′ good t within (by-step r e) =
+  next-in M M′ good t (by-move e) = uncounted-in (stateOf s M) (stateOf s M′) t (rw e at (simulates s capacity budget (pieces bytes s ok) M good))
+  next-in M M′ good t (by-step r e) =
       let (u, d, n) = rw e at (simulates s capacity budget (pieces bytes s ok) M good) in
-      let less = counted-within (context s) capacity budget (stateOf s M) u r d in
-      let (v, f) = uncounted-in (record { term = u; entries = M .entries; steps = suc (M .steps) }) (stateOf s M′) (t .0, is-due (stateOf s M) t d) n in
-      (v, omega arith)
+      uncounted-in (record { term = u; entries = M .entries; steps = suc (M .steps) }) (stateOf s M′) (t .0, is-due (stateOf s M) t d) n
 
 -- ---- A move of the code
 
@@ -185,11 +179,7 @@ module _ {sheet index question : List ℕ} {budget : ℕ} {first : List ℕ} {le
   unfolding stateOf
   typed = (rw (entries-are sheet question mem m (r .holds)) (store-in s (mem .store) (m .kept) _ (r .holds .stored) .entries-in), r .typed)
 
-  -- a machine that is next, by either kind of move
-  next-good : {M′ : Machine} → Next s capacity budget M M′ → Good s M′
-  next-good (by-move e) = good-on s capacity budget rules M (r .good) e
-  next-good (by-step c e) = good-on s capacity budget rules M (r .good) e
-
+  -- the run of a machine that is next, by either kind of move
   next-runs : {M′ : Machine} → Next s capacity budget M M′ → Runs (context s) capacity budget (stateOf s M′) whole
   next-runs (by-move e) = runs-on s capacity budget rules M (r .good) e runs
   next-runs (by-step c e) = runs-on s capacity budget rules M (r .good) e runs
@@ -217,7 +207,6 @@ module _ {sheet index question : List ℕ} {budget : ℕ} {first : List ℕ} {le
       invariant-on =
           let (next, holds, size) = matches e in
           let M′ = machineIn sheet question mem′ m′ in
-          let (of-type, within) = next-in s sheet (r .accepts) capacity budget (base (r .type)) M M′ (r .good) typed (inv .within) next in
           let changed = store-moves sheet index mem m question budget limit skip packed e in
           let was = rw (entries-are sheet question mem m (r .holds)) at (inv .left) in
           let (left, room, lent-kept) = left-on s first lent changed (r .holds .stored) (holds .stored) (inv .room) (inv .lent-kept) was in
@@ -226,20 +215,25 @@ module _ {sheet index question : List ℕ} {budget : ℕ} {first : List ℕ} {le
               accepts = r .accepts;
               index-of = r .index-of;
               holds = holds;
-              good = next-good next;
+              good = good-on s capacity budget rules (r .good) next;
               small = small-on rules (r .small) next;
               type = r .type;
-              typed = of-type;
+              typed = next-in s sheet (r .accepts) capacity budget (base (r .type)) M M′ (r .good) typed next;
             };
             runs = rw (← size, room) at (next-runs next);
             left = rw (entries-are sheet question mem′ m′ holds) left;
             room = room;
             lent-kept = lent-kept;
-            within = within;
+            within = steps-on next (inv .within) .1;
           }
 
+      -- the machine's move, and what it costs
+      pub invariant-next : Next s capacity budget M (machineIn sheet question mem′ m′)
+      invariant-next = matches e .0
+
       pub invariant-falls : measure budget (machineIn sheet question mem′ m′) < measure budget M
-      invariant-falls = move-falls rules (r .good) (matches e .0)
+      unfolding machineOf
+      invariant-falls = move-falls (r .good) (r .small) (omega (arith, r .holds .counted, r .holds .few)) (inv .within) invariant-next
 
     pub invariant-waits : step ≡ waits → (limit ≤ m .steps) × (m .steps < budget)
     invariant-waits e = matches e

@@ -16,13 +16,13 @@ use Rattle.saiga.specs.Terms.{Occurrence, val, cond, app, attr, form, put}
 use Rattle.saiga.specs.Caching.{Entry, Running, kept, write, Counted, CondTrue, CondFalse, AppApp, AttrApp, null-node, spent, depth, Due, finished, counts, writes, halts, duePart, count, condRule, keptOr, attrApp, due, State, with-value, by, Ended, dueAt}
 use Rattle.saiga.specs.Runs.{Runs, ends-value, ends-by, goes-counted, goes-writing}
 use Rattle.saiga.proofs.Keeping.{write-kept}
-use Rattle.engine.specs.Machine.{Frame, on-if, on-left, on-skip, on-right, on-node, on-parameter, on-form, Mode, evaluating, returning, Machine, openForms, innermost, scopeIn, plug, termOf, stateOf, Move, finishes, moves, takes, stops, readHead, within, branch, defined, applied, attributeDue, give, readNext, moveOf, move}
+use Rattle.engine.specs.Machine.{Frame, on-if, on-left, on-skip, on-right, on-node, on-parameter, on-form, Mode, evaluating, returning, Machine, openForms, innermost, scopeIn, plug, termOf, stateOf, Move, finishes, moves, takes, stops, readHead, within, branch, defined, applied, attributeDue, give, readNext, moveOf, move, Next, by-move, by-step}
 use Rattle.engine.specs.Good.{Pieces, Ready, Good}
 use Rattle.engine.proofs.Plugged.{Unfinished, carried, in-whole}
 use Rattle.engine.proofs.Heads.{Inside, head-inside, none-inside, whole-parses}
 
 -- a machine that goes on is good
-abbrev pub GoodAfter : Sheet → Move → Type 0
+abbrev GoodAfter : Sheet → Move → Type 0
 GoodAfter s (finishes v) = Unit {0}
 GoodAfter s (moves m) = Good s m
 GoodAfter s (takes r m) = Good s m
@@ -204,8 +204,9 @@ module _ (s : Sheet) (capacity budget : ℕ) where
   pub simulates : Pieces s → (m : Machine) → Good s m → Simulates (stateOf s m) (move s capacity budget m)
   simulates pieces m good = does pieces m good .0
 
-  pub good-on : Pieces s → (m : Machine) → Good s m → {k : Move} → move s capacity budget m ≡ k → GoodAfter s k
-  good-on pieces m good e = rw e at (does pieces m good .1)
+  pub good-on : Pieces s → {m m′ : Machine} → Good s m → Next s capacity budget m m′ → Good s m′
+  good-on pieces {m} good (by-move e) = rw e at (does pieces m good .1)
+  good-on pieces {m} good (by-step r e) = rw e at (does pieces m good .1)
 
   -- ---- Runs
 

@@ -8,3 +8,4 @@ pub mod Represents
 pub mod Ready
 pub mod Loop
 pub mod CodeSteps
+pub mod Cost

@@ -4,3 +4,4 @@ pub mod Giving
 pub mod Stepping
 pub mod Counting
 pub mod Rounds
+pub mod Cost

@@ -12,7 +12,7 @@ use Rattle.engine.specs.Represents.{machineIn}
 use Rattle.engine.specs.Ready.{memoryOf}
 use Rattle.engine.specs.Loop.{Invariant}
 use Rattle.engine.proofs.Loop.{invariant-on, invariant-falls, invariant-waits, invariant-finishes, invariant-stops}
-use Rattle.engine.proofs.Bounds.{measure}
+use Rattle.engine.specs.Cost.{measure}
 use Rattle.engine.specs.declared.Step.{Step}
 use Rattle.engine.specs.declared.Step.the-variants.{Goes, Waits, Finishes, Stops}
 use Rattle.engine.specs.CodeSteps.{steppedOf, keptAfter}

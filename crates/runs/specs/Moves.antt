@@ -2,10 +2,9 @@
 -- move to move (Loop.antt there).
 use mathlib.Core.List.{List}
 use mathlib.Core.Path.{_≡_}
-use Prim.Native.Nat.{ℕ, _≤_, _<_}
+use Prim.Native.Nat.{ℕ, suc, _≤_, _<_}
 use lib.ListN.{length}
-use Rattle.saiga.specs.Limits.{expressionLimit}
-use Rattle.saiga.specs.Limits.{budgetLimit}
+use Rattle.saiga.specs.Limits.{expressionLimit, budgetLimit}
 use Rattle.saiga.specs.Caching.{with-value, Reason, by, Ended}
 use Rattle.saiga.specs.Ask.{reasonNumber}
 use Rattle.engine.specs.RunningPiece.{restOf}
@@ -16,6 +15,7 @@ use Rattle.engine.specs.Represents.{Represents, WidthOf, PacksIn}
 use Rattle.engine.specs.Ready.{memoryOf}
 use Rattle.engine.specs.Loop.{Invariant, Final}
 use Rattle.engine.specs.declared.Step.{Step}
+use Rattle.engine.specs.declared.Step.the-variants.{Goes}
 use Rattle.engine.specs.CodeSteps.{steppedOf, keptAfter, Still}
 use Rattle.runs.specs.declared.RunEnd.{RunEnd}
 use Rattle.runs.specs.declared.RunEnd.the-variants.{Pauses, Finishes, Stops}
@@ -61,6 +61,12 @@ pub record Running (sheet index question : List ℕ) (budget : ℕ) (store links
   pub permitted : budget ≤ budgetLimit
   pub linked : Linked store (m .kept) links
   pub short : length question ≤ expressionLimit
+
+-- So many rounds of the run's loop lead from one memory and registers to others: in each, a move by which the run goes on.
+pub data Rounds (sheet index question : List ℕ) (budget limit : ℕ) (mem₀ : Memory) (first : Registers) : ℕ → Memory → Registers → Type 0 where
+  at-first : Rounds sheet index question budget limit mem₀ first 0 mem₀ first
+  and-then : {n : ℕ} {mem mem′ : Memory} {links : List ℕ} {m m′ : Registers} → Rounds sheet index question budget limit mem₀ first n mem m
+      → StepsTo sheet index question budget limit mem mem′ links m (Goes m′) → Rounds sheet index question budget limit mem₀ first (suc n) mem′ m′
 
 -- the kept number where a run leaves off
 unfoldable pub keptBy : RunEnd → ℕ
