@@ -37,7 +37,7 @@ use Rattle.engine.specs.FrameWords.{kindOf, ifKind, leftKind, skipKind, 
 use Rattle.engine.specs.Decode.{sheetOf, entriesOf, plainFrame, formOccurrence, formRest, framesIn, modeOf, machineOf, Placed}
 use Rattle.engine.specs.Steps.{Memory, Stepped, goes, answered, cacheWrite, closeForm, openRule, openFigure, takeKept, attributeDue}
 use Rattle.engine.specs.declared.Registers.{Registers}
-use Rattle.engine.proofs.Bounds.{frames-fit}
+use Rattle.engine.proofs.Bounds.{represents-sized, frames-fit}
 use Rattle.engine.specs.Machine.{Next, by-move, by-step}
 use Rattle.engine.specs.Represents.{machineIn, Represents, Matches}
 use Rattle.engine.proofs.Decoding.{frames-count}
@@ -420,7 +420,7 @@ module _ {sheet index question : List ℕ} {mem : Memory} {m : Registers} (r : R
 
         words-fit : m .frames ≤ length (mem .words)
         unfolding machineOf
-        words-fit = omega (arith, frames-fit M (r .small), frames-count sheet question (mem .forms) (mem .words) (m .frames) (m .forms))
+        words-fit = omega (arith, frames-fit (represents-sized r), frames-count sheet question (mem .forms) (mem .words) (m .frames) (m .forms))
 
         abbrev forms′ : List ℕ
         forms′ = setFour (mem .forms) (4 * m .forms) (nodeOf held * 32 + a) (toWord (m .value)) (m .at) (m .end)

@@ -1,4 +1,4 @@
--- The machine ends, and stays small: its frames fit into an array of 16,640.
+-- The machine ends, and stays small: its frames fit into an array of 8,320.
 use mathlib.Core.Bool.{Bool, true, false}
 use mathlib.Core.Bool as Bool
 use mathlib.Core.Option.{Option, none, some}
@@ -9,6 +9,7 @@ use native.Mathlib.Omega.{arith}
 use lib.Dec.{leb, ltb, eqb}
 use lib.ListN.{length, drop, length-drop}
 use borrow.Author.Tests.{leb-true, leb-false, ltb-true}
+use Rattle.saiga.specs.Limits.{depthLimit}
 use Rattle.saiga.specs.declared.Value.{Value}
 use Rattle.saiga.specs.Values.{null, truth, nodeOf}
 use Rattle.saiga.specs.Expressions.{Expr, Scope, Head, base-literal, function-literal, if-head, application-head, attribute-head, this-head, parameter-head, no-head, headOf, operandWidth, readExpr, no-expression, expression, readWhole}
@@ -16,17 +17,16 @@ use Rattle.saiga.specs.Sheet.{Sheet, ruleScope, Definition, undefined, figure, 
 use Rattle.saiga.specs.Terms.{Occurrence}
 use Rattle.saiga.specs.Caching.{Entry, Counted}
 use Rattle.saiga.proofs.Inference.{cond-passes}
+use Rattle.saiga.proofs.Reading.{read-width}
 use Rattle.engine.specs.Machine.{Next, by-move, by-step, Frame, on-if, on-left, on-skip, on-right, on-node, on-parameter, on-form, Mode, evaluating, returning, Machine, openForms, scopeIn, widthOf, passOver, Move, finishes, moves, takes, stops, readHead, within, branch, defined, applied, attributeDue, give, readNext, moveOf, move}
-use Rattle.engine.specs.Good.{Parses, Pieces, GoodAt, Good, inPiece, Waiting, Small}
-use Rattle.engine.specs.Decode.{frameLimit}
+use Rattle.engine.specs.Good.{Parses, Pieces, Ready, GoodAt, Good, used, usedBy, Waiting, Small}
+use Rattle.engine.specs.Decode.{frameLimit, sheetOf, machineOf}
+use Rattle.engine.specs.Steps.{Memory}
+use Rattle.engine.specs.Represents.{machineIn, Represents}
+use Rattle.engine.specs.declared.Registers.{Registers}
 use Rattle.engine.specs.Cost.{Moves, at-first, and-then, credit, credits, modeCredit, measure}
 
 -- ---- What every move keeps
-
--- how many frames a move may add
-room : Mode → ℕ
-room evaluating = 1
-room (returning v) = 0
 
 -- a move, and what comes after it, is paid for
 record Pays (budget : ℕ) (m m′ : Machine) : Type 0 where
@@ -37,20 +37,20 @@ record Pays (budget : ℕ) (m m′ : Machine) : Type 0 where
 
 record Keeps (s : Sheet) (budget : ℕ) (m m′ : Machine) : Type 0 where
   cost : Pays budget m m′
-  small : Pieces s → Small m → Small m′
+  small : Pieces s → Good s m → Small m → Small m′
   forms : length (openForms (m .frames)) ≤ 64 → length (openForms (m′ .frames)) ≤ 64
-  fit : length (m′ .frames) ≤ room (m .mode) + length (m .frames)
+  fit : length (m′ .frames) ≤ 1 + length (m .frames)
 
 -- most moves stay in the piece
 record Shrinks (budget : ℕ) (m m′ : Machine) : Type 0 where
   cost : Pays budget m m′
-  small : inPiece (m′ .frames) + length (m′ .rest) ≤ inPiece (m .frames) + length (m .rest)
+  small : usedBy (m′ .mode) + used (m′ .frames) + length (m′ .rest) ≤ usedBy (m .mode) + used (m .frames) + length (m .rest)
   forms : length (openForms (m′ .frames)) ≤ length (openForms (m .frames))
-  fit : length (m′ .frames) ≤ room (m .mode) + length (m .frames)
+  fit : length (m′ .frames) ≤ 1 + length (m .frames)
 
 within-piece : {s : Sheet} {budget : ℕ} {m m′ : Machine} → Shrinks budget m m′ → (Waiting (m .frames) → Waiting (m′ .frames)) → Keeps s budget m m′
 within-piece k w =
-    record { cost = k .cost; small = λ p h. (omega arith, w (h .1)); forms = λ n. omega arith; fit = k .fit }
+    record { cost = k .cost; small = λ p g h. (omega arith, w (h .1)); forms = λ n. omega arith; fit = k .fit }
 
 abbrev Onward : (Machine → Type 0) → Move → Type 0
 Onward P (finishes v) = Unit {0}
@@ -91,12 +91,12 @@ module _ (s : Sheet) (capacity budget : ℕ) (entries : List Entry) (steps : ℕ
   -- a head with a value
   value-on : (c : ℕ) (l k : List ℕ) (fs : List Frame) (v : Value) → length k ≤ length l
       → Keeps s budget (state evaluating (c ∷ l) fs) (state (returning v) k fs)
-  unfolding modeCredit room
+  unfolding modeCredit
   value-on c l k fs v h = within-piece (omega arith) (λ w. w)
 
   reads-on : (c : ℕ) (l : List ℕ) (fs : List Frame) (h : Head)
       → Keeps s budget (state evaluating (c ∷ l) fs) (readHead s capacity budget (state evaluating (c ∷ l) fs) h l)
-  unfolding readHead credits credit modeCredit room openForms
+  unfolding readHead credits credit modeCredit openForms
   reads-on c l fs (base-literal t) = value-on c l _ fs _ (drop-shorter (operandWidth t) l)
   reads-on c l fs function-literal = value-on c l _ fs _ (drop-shorter 1 l)
   reads-on c l fs if-head = within-piece (omega arith) (λ w. w)
@@ -114,7 +114,7 @@ module _ (s : Sheet) (capacity budget : ℕ) (entries : List Entry) (steps : ℕ
 
   branch-on : (v : Value) (l : List ℕ) (fs : List Frame) (b : Bool)
       → Onward (Keeps s budget (state (returning v) l (on-if ∷ fs))) (branch s capacity budget (state (returning v) l (on-if ∷ fs)) b fs)
-  unfolding branch credits credit modeCredit room openForms
+  unfolding branch credits credit modeCredit openForms
   branch-on v l fs true = within-on v l (on-if ∷ fs) _ _ λ b. within-piece (omega arith) (λ w. w)
   branch-on v l fs false =
       within-on v l (on-if ∷ fs) _ _ λ b. within-piece (omega (arith, pass-shorter (scopeIn s (openForms fs)) l)) (λ w. w)
@@ -125,13 +125,13 @@ module _ (s : Sheet) (capacity budget : ℕ) (entries : List Entry) (steps : ℕ
     before = state (returning v) l (on-parameter n a ∷ fs)
 
     defined-on : (o : Occurrence) (d : Definition) → definition s (o .node) (o .attribute) ≡ d → Keeps s budget before (defined s capacity budget before o fs d)
-    unfolding defined credits credit modeCredit room openForms
+    unfolding defined credits credit modeCredit openForms
     defined-on o undefined e = within-piece (omega arith) (λ w. w)
     defined-on o (figure u) e = within-piece (omega arith) (λ w. w)
     defined-on o (piece-of p) e =
         record {
           cost = omega arith;
-          small = λ ps w. (omega (arith, short ps), w);
+          small = λ ps g w. (omega (arith, short ps), (omega arith, w .1));
           forms = λ n. few;
           fit = omega arith;
         }
@@ -140,13 +140,13 @@ module _ (s : Sheet) (capacity budget : ℕ) (entries : List Entry) (steps : ℕ
         short ps = let r = ps .whole (o .node) (o .attribute) p e in whole-short (ruleScope s) p (r .0) (r .1)
 
     applied-on : (o : Occurrence) (k : Option Value) → Keeps s budget before (applied s capacity budget before o fs k)
-    unfolding applied credits credit modeCredit room openForms
+    unfolding applied credits credit modeCredit openForms
     applied-on o none = defined-on o _ refl
     applied-on o (some u) = within-piece (omega arith) (λ w. w)
 
   give-on : (v : Value) (l : List ℕ) (fs : List Frame)
       → Onward (Keeps s budget (state (returning v) l fs)) (give s capacity budget (state (returning v) l fs) v fs)
-  unfolding give attributeDue credits credit modeCredit room openForms
+  unfolding give attributeDue credits credit modeCredit openForms
   give-on v l [] = tt
   give-on v l (on-if ∷ fs) = branch-on v l fs (truth v)
   give-on v l (on-left ∷ fs) = within-piece (omega arith) (λ w. w)
@@ -159,12 +159,12 @@ module _ (s : Sheet) (capacity budget : ℕ) (entries : List Entry) (steps : ℕ
       cond-onward _ (leb 64 (length (openForms fs))) _ _ (λ h. tt) λ few.
       applied-on v n a l fs (ltb-true steps budget b) (leb-false 64 _ few) _ _) (λ h. tt)
   give-on v l (on-form o outer ∷ fs) =
-      record { cost = omega arith; small = λ p w. (omega arith, w .1 .1); forms = λ n. omega arith; fit = omega arith }
+      record { cost = omega arith; small = λ p g w. (omega arith, w .1 .1); forms = λ n. omega arith; fit = omega arith }
 
   move-on : (mode : Mode) (l : List ℕ) (fs : List Frame) → Onward (Keeps s budget (state mode l fs)) (move s capacity budget (state mode l fs))
-  unfolding move moveOf readNext modeCredit room
+  unfolding move moveOf readNext modeCredit
   move-on evaluating [] fs =
-      record { cost = omega arith; small = λ p w. w; forms = λ n. n; fit = omega arith }
+      record { cost = omega arith; small = λ p g. absurd (nothing-parses (scopeIn s (openForms fs)) (g .0)); forms = λ n. n; fit = omega arith }
   move-on evaluating (c ∷ l) fs = reads-on c l fs (headOf c)
   move-on (returning v) l fs = give-on v l fs
 
@@ -178,8 +178,8 @@ next-on {s} {capacity} {budget} {m} n = go n
     go (by-move e) = rw e at on
     go (by-step r e) = rw e at on
 
-pub small-on : {s : Sheet} {capacity budget : ℕ} {m m′ : Machine} → Pieces s → Small m → Next s capacity budget m m′ → Small m′
-small-on p w n = next-on n .small p w
+pub small-on : {s : Sheet} {capacity budget : ℕ} {m m′ : Machine} → Pieces s → Good s m → Small m → Next s capacity budget m m′ → Small m′
+small-on p g w n = next-on n .small p g w
 
 pub forms-on : {s : Sheet} {capacity budget : ℕ} {m m′ : Machine} → length (openForms (m .frames)) ≤ 64 → Next s capacity budget m m′
     → length (openForms (m′ .frames)) ≤ 64
@@ -191,58 +191,53 @@ steps-on n h = let k = next-on n .cost in (k .counts, omega (arith, k .within))
 
 -- ---- Room for the frames
 
--- a value that is given takes a frame away before it pushes one
-pub frames-on : {s : Sheet} {capacity budget : ℕ} {m m′ : Machine} (v : Value) → m .mode ≡ returning v → Next s capacity budget m m′
-    → length (m′ .frames) ≤ length (m .frames)
-unfolding room
-frames-on v e n = let f = rw e at (next-on n .fit) in omega arith
+-- An expression has a byte at least.
+pass-less : {sc : Scope} {l : List ℕ} → Parses sc l → length (passOver sc l) < length l
+unfolding passOver widthOf
+pass-less {sc} {l} p =
+    let is : length (passOver sc l) ≡ length (drop (p .width) l) = rw (p .read) in
+    omega (arith, length-drop (p .width) l, read-width sc (length l) l (p .expr) (p .width) (p .read))
 
-waiting-fit : (fs : List Frame) → Waiting fs → length fs ≤ inPiece fs + 256 * length (openForms fs)
+-- Each frame has two bytes of its piece, used or still to come to.
+ready-fit : (s : Sheet) (fs : List Frame) (l : List ℕ) → Ready s fs l → Waiting fs → 2 * length fs ≤ used fs + length l + 256 * length (openForms fs)
 unfolding openForms
-waiting-fit [] w = omega arith
-waiting-fit (on-if ∷ fs) w = omega (arith, waiting-fit fs w)
-waiting-fit (on-left ∷ fs) w = omega (arith, waiting-fit fs w)
-waiting-fit (on-skip ∷ fs) w = omega (arith, waiting-fit fs w)
-waiting-fit (on-right v ∷ fs) w = omega (arith, waiting-fit fs w)
-waiting-fit (on-node a ∷ fs) w = omega (arith, waiting-fit fs w)
-waiting-fit (on-parameter v a ∷ fs) w = omega (arith, waiting-fit fs w)
-waiting-fit (on-form o outer ∷ fs) w = omega (arith, waiting-fit fs (w .1))
+ready-fit s [] l r w = omega arith
+ready-fit s (on-if ∷ fs) l (first, second, r) w = omega (arith, pass-less first, pass-less second, ready-fit s fs _ r w)
+ready-fit s (on-left ∷ fs) l (first, r) w = omega (arith, pass-less first, ready-fit s fs _ r w)
+ready-fit s (on-skip ∷ fs) l (first, r) w = omega (arith, pass-less first, ready-fit s fs _ r w)
+ready-fit s (on-right v ∷ fs) l r w = omega (arith, ready-fit s fs l r w)
+ready-fit s (on-node a ∷ fs) l (first, r) w = omega (arith, pass-less first, ready-fit s fs _ r w)
+ready-fit s (on-parameter v a ∷ fs) l r w = omega (arith, ready-fit s fs l r w)
+ready-fit s (on-form o outer ∷ fs) l r w = omega (arith, ready-fit s fs outer r (w .1))
 
-pub frames-fit : (m : Machine) → Small m → length (m .frames) ≤ 256 * suc (length (openForms (m .frames)))
-frames-fit m w = omega (arith, waiting-fit (m .frames) (w .1))
+-- A machine whose frames fit.
+pub record Sized (s : Sheet) (m : Machine) : Type 0 where
+  pub good : Good s m
+  pub small : Small m
+  pub few : length (openForms (m .frames)) ≤ depthLimit
 
-parses-bytes : (sc : Scope) (l : List ℕ) → Parses sc l → 1 ≤ length l
-parses-bytes sc [] p = absurd (nothing-parses sc p)
-parses-bytes sc (c ∷ l) p = omega arith
-
--- so an evaluating machine, whose next byte is not yet paid with a frame, may push one
-pub room-to-push : (s : Sheet) (m : Machine) → Good s m → Small m → length (openForms (m .frames)) ≤ 64 → m .mode ≡ evaluating
-    → length (m .frames) < 16640
-room-to-push s m g w few e =
-    let good : GoodAt s evaluating (m .rest) (m .frames) = rw e at g in
-    omega (arith, waiting-fit (m .frames) (w .1), parses-bytes _ (m .rest) (good .0))
-
--- The frames after a move fit too: only an evaluating machine pushes.
-pub fit-on : {s : Sheet} {capacity budget : ℕ} {m m′ : Machine} → Good s m → Small m → length (openForms (m .frames)) ≤ 64
-    → Next s capacity budget m m′ → length (m′ .frames) ≤ frameLimit
-unfolding room
-fit-on {s} {m = m} {m′} g w few n = go (m .mode) refl
+-- There is room for one more.
+pub frames-fit : {s : Sheet} {m : Machine} → Sized s m → length (m .frames) < frameLimit
+frames-fit {s} {m} z = go (m .mode) (m .rest) (m .frames) (z .good) (z .small) (z .few)
   where
-    go : (mode : Mode) → m .mode ≡ mode → length (m′ .frames) ≤ frameLimit
-    go evaluating e = let f = rw e at (next-on n .fit) in omega (arith, room-to-push s m g w few e)
-    go (returning v) e = omega (arith, frames-on v e n, frames-fit m w)
+    go : (mode : Mode) (l : List ℕ) (fs : List Frame) → GoodAt s mode l fs → (usedBy mode + used fs + length l ≤ 256) × Waiting fs
+        → length (openForms fs) ≤ 64 → length fs < frameLimit
+    go evaluating l fs g w few = omega (arith, pass-less (g .0), ready-fit s fs _ (g .1) (w .1))
+    go (returning v) l fs g w few = omega (arith, ready-fit s fs l g (w .1))
 
-pub start-small : (m : Machine) → m .frames ≡ [] → length (m .rest) ≤ 256 → Small m × (length (openForms (m .frames)) ≡ 0)
-unfolding openForms
-start-small m e h = rw e ((omega arith, tt), refl)
+-- what registers and memory hold
+pub represents-sized : {sheet index question : List ℕ} {mem : Memory} {m : Registers} → Represents sheet index question mem m
+    → Sized (sheetOf sheet) (machineIn sheet question mem m)
+unfolding machineOf
+represents-sized r = record { good = r .good; small = r .small; few = omega (arith, r .holds .counted, r .holds .few) }
 
 -- ---- The cost of a move
 
 -- so the measure falls
-pub move-falls : {s : Sheet} {capacity budget : ℕ} {m m′ : Machine} → Good s m → Small m → length (openForms (m .frames)) ≤ 64 → m .steps ≤ budget
-    → Next s capacity budget m m′ → measure budget m′ < measure budget m
+pub move-falls : {s : Sheet} {capacity budget : ℕ} {m m′ : Machine} → Sized s m → m .steps ≤ budget → Next s capacity budget m m′
+    → measure budget m′ < measure budget m
 unfolding measure
-move-falls {m = m} g w few below n = let k = next-on n .cost in omega (arith, k, fit-on g w few n, frames-fit m w)
+move-falls z below n = let k = next-on n .cost in omega (arith, k, frames-fit z, next-on n .fit)
 
 pub moves-cost : {s : Sheet} {capacity budget n : ℕ} {first m : Machine} → Moves s capacity budget first n m
     → (n + credits (m .frames) + modeCredit (m .mode) + 3 * length (first .frames) + 6 * first .steps

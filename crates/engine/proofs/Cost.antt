@@ -5,32 +5,25 @@ use mathlib.Core.Path.{_≡_, refl}
 use Prim.Native.Nat.{ℕ, _+_, _*_, _-_, _≤_}
 use native.Mathlib.Omega.{arith}
 use lib.ListN.{length}
-use Rattle.saiga.specs.Limits.{depthLimit}
 use Rattle.saiga.specs.Expressions.{Expr}
 use Rattle.saiga.specs.Sheet.{Sheet, accepted, checkSheet}
 use Rattle.saiga.specs.Caching.{Entry}
 use Rattle.saiga.specs.Ask.{checkQuestion}
 use Rattle.engine.specs.Machine.{Frame, on-if, on-left, on-skip, on-right, on-node, on-parameter, on-form, Mode, evaluating, returning, Machine, openForms}
-use Rattle.engine.specs.Good.{Pieces, Good, Small}
+use Rattle.engine.specs.Good.{Pieces}
 use Rattle.engine.specs.Cost.{Moves, at-first, and-then, credit, credits, modeCredit, measure}
-use Rattle.engine.proofs.Bounds.{small-on, forms-on, steps-on, frames-fit, moves-cost, start-small}
+use Rattle.engine.proofs.Bounds.{Sized, small-on, forms-on, steps-on, frames-fit, moves-cost}
 use Rattle.engine.proofs.Simulation.{good-on}
-use Rattle.engine.proofs.Start.{start, question-start, pieces}
+use Rattle.engine.proofs.Start.{start, start-small, question-start, pieces}
 use Rattle.engine.proofs.Loop.{question-short}
 
 -- ---- Any part of a run
 
--- a machine whose frames fit
-pub record Sized (s : Sheet) (m : Machine) : Type 0 where
-  pub good : Good s m
-  pub small : Small m
-  pub few : length (openForms (m .frames)) ≤ depthLimit
-
-pub sized-after : {s : Sheet} {capacity budget n : ℕ} {first m : Machine} → Pieces s → Sized s first → Moves s capacity budget first n m → Sized s m
+sized-after : {s : Sheet} {capacity budget n : ℕ} {first m : Machine} → Pieces s → Sized s first → Moves s capacity budget first n m → Sized s m
 sized-after rules sized at-first = sized
 sized-after rules sized (and-then k next) =
     let now = sized-after rules sized k in
-    record { good = good-on _ _ _ rules (now .good) next; small = small-on rules (now .small) next; few = forms-on (now .few) next }
+    record { good = good-on _ _ _ rules (now .good) next; small = small-on rules (now .good) (now .small) next; few = forms-on (now .few) next }
 
 steps-after : {s : Sheet} {capacity budget n : ℕ} {first m : Machine} → Moves s capacity budget first n m → first .steps ≤ budget
     → (first .steps ≤ m .steps) × (m .steps ≤ budget)
@@ -59,10 +52,10 @@ mode-few (returning v) = omega arith
 
 -- From any machine that a run comes to: the moves from a pause to the next, say.
 pub part-moves : {s : Sheet} {capacity budget n : ℕ} {first m : Machine} → Pieces s → Sized s first → first .steps ≤ budget
-    → Moves s capacity budget first n m → n ≤ 6 * (m .steps - first .steps) + 66561
+    → Moves s capacity budget first n m → n ≤ 6 * (m .steps - first .steps) + 33281
 part-moves {first = first} {m} rules sized h k =
     let now = sized-after rules sized k in
-    omega (arith, moves-cost k, steps-after k h, now .few, frames-fit m (now .small), sized .few, frames-fit first (sized .small), credits-few (first .frames), mode-few (first .mode))
+    omega (arith, moves-cost k, steps-after k h, frames-fit now, frames-fit sized, credits-few (first .frames), mode-few (first .mode))
 
 -- From a machine without frames, as at the start.
 pub unframed-moves : {s : Sheet} {capacity budget n : ℕ} {first m : Machine} → first .frames ≡ [] → first .steps ≤ budget → Moves s capacity budget first n m
@@ -75,7 +68,7 @@ unframed-moves {n = n} {first} {m} is h k =
 
 -- ---- A run from its start
 
-pub start-measure : (q : List ℕ) (entries : List Entry) (budget : ℕ) → measure budget (start q entries) ≡ 6 * budget + 49921
+pub start-measure : (q : List ℕ) (entries : List Entry) (budget : ℕ) → measure budget (start q entries) ≡ 6 * budget + 24961
 unfolding measure credits modeCredit
 start-measure q entries budget = omega arith
 
@@ -85,19 +78,19 @@ module _ (bytes : List ℕ) (s : Sheet) (ok : checkSheet bytes ≡ accepted s) (
   unfolding openForms
   sized =
       sized-after (pieces bytes s ok)
-      record { good = question-start s q e form entries .0; small = start-small (start q entries) refl (question-short s q e form) .0; few = omega arith } k
+      record { good = question-start s q e form entries .0; small = start-small q entries (question-short s q e form); few = omega arith } k
 
   -- as far as it has come
   pub run-moves : n ≤ 6 * m .steps + 3 * length (m .frames) + 1
   run-moves = omega (arith, unframed-moves refl (omega arith) k)
 
-  pub run-moves-by-steps : n ≤ 6 * m .steps + 49921
-  run-moves-by-steps = omega (arith, run-moves, sized .few, frames-fit m (sized .small))
+  pub run-moves-by-steps : n ≤ 6 * m .steps + 24961
+  run-moves-by-steps = omega (arith, run-moves, frames-fit sized)
 
   -- A run that comes to its value has taken its frames away.
   pub value-moves : m .frames ≡ [] → n ≤ 6 * m .steps + 1
   value-moves is = let all : n ≤ 6 * m .steps + 3 * length {A = Frame} [] + 1 = rw is at run-moves in omega arith
 
   -- whatever the sheet, the question and the store are
-  pub run-moves-by-budget : n ≤ 6 * budget + 49921
+  pub run-moves-by-budget : n ≤ 6 * budget + 24961
   run-moves-by-budget = omega (arith, run-moves-by-steps, steps-after k (omega arith))

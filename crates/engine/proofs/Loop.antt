@@ -29,9 +29,9 @@ use Rattle.engine.specs.RunningPiece.{pieceIn, restOf}
 use Rattle.engine.specs.Machine.{Machine, Next, by-move, by-step, openForms, stateOf}
 use Rattle.engine.specs.Good.{Pieces, Good}
 use Rattle.engine.specs.Cost.{measure}
-use Rattle.engine.proofs.Bounds.{move-falls, small-on, steps-on, start-small}
+use Rattle.engine.proofs.Bounds.{move-falls, small-on, steps-on, represents-sized}
 use Rattle.engine.proofs.Simulation.{Uncounted, same, written, simulates, good-on, runs-on}
-use Rattle.engine.proofs.Start.{start, question-start, pieces}
+use Rattle.engine.proofs.Start.{start, start-small, question-start, pieces}
 use Rattle.engine.specs.Decode.{frameLimit, formsSize, sheetIn, sheetOf, entriesOf, framesIn, modeOf, machineOf}
 use Rattle.engine.specs.Steps.{Memory, Stepped, goes, waits, stepOf}
 use Rattle.engine.specs.Steps as Steps
@@ -98,7 +98,7 @@ start-at sheet index question budget store words forms kept any entries e accept
         index-of = index-of;
         holds = start-holds sheet question store words forms kept any entries passes words-size forms-size;
         good = rw machine good;
-        small = rw machine (start-small (start question entries) refl (question-short s question e form) .0);
+        small = rw machine (start-small question entries (question-short s question e form));
         type = B;
         typed = rw (machine, state) (put-in 0 unit (λ n. absurd (false≢true n)) (λ n. absurd (false≢true n)) typed);
       };
@@ -216,7 +216,7 @@ module _ {sheet index question : List ℕ} {budget : ℕ} {first : List ℕ} {le
               index-of = r .index-of;
               holds = holds;
               good = good-on s capacity budget rules (r .good) next;
-              small = small-on rules (r .small) next;
+              small = small-on rules (r .good) (r .small) next;
               type = r .type;
               typed = next-in s sheet (r .accepts) capacity budget (base (r .type)) M M′ (r .good) typed next;
             };
@@ -233,7 +233,7 @@ module _ {sheet index question : List ℕ} {budget : ℕ} {first : List ℕ} {le
 
       pub invariant-falls : measure budget (machineIn sheet question mem′ m′) < measure budget M
       unfolding machineOf
-      invariant-falls = move-falls (r .good) (r .small) (omega (arith, r .holds .counted, r .holds .few)) (inv .within) invariant-next
+      invariant-falls = move-falls (represents-sized r) (inv .within) invariant-next
 
     pub invariant-waits : step ≡ waits → (limit ≤ m .steps) × (m .steps < budget)
     invariant-waits e = matches e

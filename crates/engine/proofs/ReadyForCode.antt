@@ -17,7 +17,7 @@ use Rattle.engine.specs.RunningPiece.{restOf}
 use Rattle.expressions.specs.Widths.{Starts, headWidth}
 use Rattle.engine.specs.Machine.{Frame, on-if, on-left, on-skip, on-right, on-node, on-parameter, on-form, evaluating, returning, openForms, innermost, scopeIn, termAt, restAt, plug, termOf, stateOf}
 use Rattle.engine.specs.Good.{Parses, Ready, GoodAt}
-use Rattle.engine.proofs.Bounds.{frames-fit, room-to-push}
+use Rattle.engine.proofs.Bounds.{represents-sized, frames-fit}
 use Rattle.engine.proofs.Heads.{none-inside}
 use Rattle.engine.specs.FrameWords.{kindOf, ifKind, skipKind}
 use Rattle.engine.specs.Decode.{frameLimit, runSize, wordsIn, formsIn, sheetOf, formOccurrence, framesIn, modeOf, machineOf}
@@ -77,19 +77,12 @@ module _ {sheet index question : List ℕ} {store : List ℕ} (run : List ℕ) {
   pub rest-reaches : m .at + length bytes ≡ m .end
   rest-reaches = omega (arith, rest-length sheet question (m .forms) (m .at) (m .end) (r .holds .to), r .holds .from)
 
-  pub frames-inside : m .frames ≤ frameLimit
+  pub frames-inside : m .frames < frameLimit
   unfolding machineOf
-  frames-inside =
-      omega (
-        arith,
-        frames-count sheet question (formsIn run) (wordsIn run) (m .frames) (m .forms),
-        r .holds .counted,
-        r .holds .few,
-        frames-fit (machineIn sheet question mem m) (r .small),
-      )
+  frames-inside = omega (arith, frames-count sheet question (formsIn run) (wordsIn run) (m .frames) (m .forms), frames-fit (represents-sized r))
 
   pub frame-ready : 0 < m .frames → FrameReady run m
-  frame-ready some = record { size = run-size; framed = some; inside = frames-inside }
+  frame-ready some = record { size = run-size; framed = some; inside = omega (arith, frames-inside) }
 
   -- the innermost form, where one is open
   module _ (some : 0 < length (openForms frames)) where
@@ -139,16 +132,6 @@ module _ {sheet index question : List ℕ} {store : List ℕ} (run : List ℕ) {
   unfolding machineOf modeOf
   good = rw evaluates at (r .good)
 
-  room : m .frames < frameLimit
-  unfolding machineOf modeOf
-  room =
-      omega (
-        arith,
-        frames-count sheet question (formsIn run) (wordsIn run) (m .frames) (m .forms),
-        room-to-push (s run r) (machineIn sheet question (mem run r) m) (r .good) (r .small) (omega (arith, r .holds .counted, r .holds .few))
-            (ap (λ b. modeOf b (m .value)) evaluates),
-      )
-
   head-ready : (l : List ℕ) (h : Head) → Fits (scopeIn (s run r) (openForms (frames run r))) h l → HeadReady sheet run m h
   unfolding questionScope
   head-ready l (base-literal t) fits = tt
@@ -172,7 +155,7 @@ module _ {sheet index question : List ℕ} {store : List ℕ} (run : List ℕ) {
             operand = width-fits _ l (headOf c) fits;
             inside = omega (arith, ap length is, rest-reaches run r);
             size = run-size run r;
-            room = room;
+            room = frames-inside run r;
             head = head-ready l (headOf c) fits;
           }
 

@@ -2,7 +2,10 @@
 use mathlib.Core.List.{List, []}
 use mathlib.Core.Option.{Option, none, some}
 use mathlib.Core.Path.{_≡_}
-use Prim.Native.Nat.{ℕ}
+use Prim.Native.Nat.{ℕ, _≤_}
+use native.Mathlib.Omega.{arith}
+use lib.ListN.{length}
+use Rattle.saiga.specs.Limits.{expressionLimit}
 use Rattle.saiga.specs.Values.{Ty, base, _⇒_}
 use Rattle.saiga.specs.declared.Value.{Value}
 use Rattle.saiga.specs.Expressions.{Expr, Whole, no-expression, expression, readWhole}
@@ -11,12 +14,15 @@ use Rattle.saiga.specs.Caching.{Entry}
 use Rattle.saiga.specs.Ask.{ofBaseType, checkType, checkQuestion, asked}
 use Rattle.saiga.proofs.Accepted.{rule-reads}
 use Rattle.engine.specs.Machine.{evaluating, Machine, openForms, innermost, scopeIn, plug, termOf, stateOf}
-use Rattle.engine.specs.Good.{Pieces, Good}
+use Rattle.engine.specs.Good.{Pieces, Good, Small}
 use Rattle.engine.proofs.Heads.{whole-parses}
 
 -- the machine that starts on a question's bytes
 abbrev pub start : List ℕ → List Entry → Machine
 start q entries = record { mode = evaluating; rest = q; frames = []; entries = entries; steps = 0 }
+
+pub start-small : (q : List ℕ) (entries : List Entry) → length q ≤ expressionLimit → Small (start q entries)
+start-small q entries h = (omega arith, tt)
 
 -- what is accepted is read wholly
 typed-same : (T : Option Ty) (d e : Expr) → ofBaseType T d ≡ accepted e → d ≡ e

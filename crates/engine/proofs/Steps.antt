@@ -29,7 +29,7 @@ use Rattle.engine.specs.Steps.{Memory, Stepped, goes, returned, pushed, 
 use Rattle.engine.specs.Steps as Steps
 use Rattle.engine.specs.declared.Registers.{Registers}
 use Rattle.engine.specs.Good.{Parses, Ready, GoodAt}
-use Rattle.engine.proofs.Bounds.{frames-fit, room-to-push}
+use Rattle.engine.proofs.Bounds.{represents-sized, frames-fit}
 use Rattle.engine.specs.Machine.{Next, by-move, by-step}
 use Rattle.engine.proofs.Heads.{none-inside}
 use Rattle.engine.specs.Represents.{machineIn, HoldsIn, Represents, Matches, WidthOf, Packs, PacksIn}
@@ -215,8 +215,7 @@ module _ (sheet question : List ℕ) (budget limit : ℕ) (mem : Memory) (m : Re
         good = rw evaluates at (r .good)
 
         room : m .frames < length (mem .words)
-        room =
-            omega (arith, counted, r .holds .words-size, room-to-push s M (r .good) (r .small) few (ap (λ b. modeOf b (m .value)) evaluates))
+        room = omega (arith, counted, r .holds .words-size, frames-fit (represents-sized r))
 
         go : (l : List ℕ) → bytes ≡ l → Matched (Steps.readNext sheet index mem m l)
         go [] is = none-inside (rw is at (good .0))
@@ -238,7 +237,7 @@ module _ (sheet question : List ℕ) (budget limit : ℕ) (mem : Memory) (m : Re
 
       fit : m .frames ≤ length (mem .words)
       unfolding machineOf
-      fit = omega (arith, counted, few, r .holds .words-size, frames-fit M (r .small))
+      fit = omega (arith, counted, r .holds .words-size, frames-fit (represents-sized r))
 
       -- a counted step, within the limits
       counts : (n : Counted) {after : Machine} (k : Stepped) → next ≡ within s capacity budget M n after → (next ≡ takes n after → Matched k)

@@ -35,15 +35,16 @@ entriesOf (accepted entries) = entries
 -- ---- The memory of a run
 
 -- One lent array: the words of the frames, and behind them the open forms, four numbers to each.
--- A frame stands for a head whose part is being read: at most 256 in each of 65 pieces, the question and the rules of 64 open forms (Bounds.antt).
+-- A frame has two bytes of its piece at least, used or still to come to: so there are at most 128 in each of 65 pieces, the question and the rules of 64
+-- open forms (Bounds.antt).
 abbrev pub frameLimit : ℕ
-frameLimit = 16640
+frameLimit = 8320
 
 abbrev pub formsSize : ℕ
 formsSize = 256
 
 abbrev pub runSize : ℕ
-runSize = 16896
+runSize = 8576
 
 unfoldable pub wordsIn : List ℕ → List ℕ
 wordsIn run = take frameLimit run

@@ -42,19 +42,25 @@ module _ (s : Sheet) where
 
 -- ---- How large a machine grows
 
--- the frames of the innermost piece; a form's frame counts to the piece that it returns to
-abbrev pub inPiece : List Frame → ℕ
-inPiece [] = 0
-inPiece (on-if ∷ fs) = 1 + inPiece fs
-inPiece (on-left ∷ fs) = 1 + inPiece fs
-inPiece (on-skip ∷ fs) = 1 + inPiece fs
-inPiece (on-right v ∷ fs) = 1 + inPiece fs
-inPiece (on-node a ∷ fs) = 1 + inPiece fs
-inPiece (on-parameter v a ∷ fs) = 1 + inPiece fs
-inPiece (on-form o outer ∷ fs) = 0
+-- The bytes of the innermost piece that its frames have used, at least: one for the head; one more where a frame has no expression still to come to, for the
+-- part whose value it holds.
+abbrev pub used : List Frame → ℕ
+used [] = 0
+used (on-if ∷ fs) = 1 + used fs
+used (on-left ∷ fs) = 1 + used fs
+used (on-skip ∷ fs) = 1 + used fs
+used (on-right v ∷ fs) = 2 + used fs
+used (on-node a ∷ fs) = 1 + used fs
+used (on-parameter v a ∷ fs) = 2 + used fs
+used (on-form o outer ∷ fs) = 0
 
--- Each frame was pushed for a byte that is no longer in the rest of its piece, and a piece has at most 256 bytes: so much for the
--- pieces that wait behind forms.
+-- A returning machine has used one for the value.
+abbrev pub usedBy : Mode → ℕ
+usedBy evaluating = 0
+usedBy (returning v) = 1
+
+-- What is used is no longer in the rest of its piece, and a piece has at most 256 bytes: so much for the pieces that wait behind forms. A form's frame
+-- counts to the piece that it returns to.
 abbrev pub Waiting : List Frame → Type 0
 Waiting [] = Unit {0}
 Waiting (on-if ∷ fs) = Waiting fs
@@ -63,8 +69,8 @@ Waiting (on-skip ∷ fs) = Waiting fs
 Waiting (on-right v ∷ fs) = Waiting fs
 Waiting (on-node a ∷ fs) = Waiting fs
 Waiting (on-parameter v a ∷ fs) = Waiting fs
-Waiting (on-form o outer ∷ fs) = (1 + inPiece fs + length outer ≤ expressionLimit) × Waiting fs
+Waiting (on-form o outer ∷ fs) = (2 + used fs + length outer ≤ expressionLimit) × Waiting fs
 
--- and for the running piece, of which a returning machine has read a byte more than it has frames
+-- and for the running piece
 abbrev pub Small : Machine → Type 0
-Small m = (inPiece (m .frames) + length (m .rest) ≤ expressionLimit) × Waiting (m .frames)
+Small m = (usedBy (m .mode) + used (m .frames) + length (m .rest) ≤ expressionLimit) × Waiting (m .frames)

@@ -6,6 +6,8 @@ use frames::ON_IF;
 use frames::ON_LEFT;
 use frames::ON_SKIP;
 use saiga::Value;
+use saiga::limits::DEPTH_LIMIT;
+use saiga::limits::EXPRESSION_LIMIT;
 ghost use mathlib.Core.List.{List};
 ghost use mathlib.Core.Path.{_≡_};
 ghost use Prim.Native.Nat.{ℕ, _+_, _*_, _/_, _%_, _^_, _≤_, _<_};
@@ -49,9 +51,9 @@ pub enum Step {
 
 // The memory of a run is one array: the words of the frames, and behind them four numbers for each form that can be open: its node × 32 + attribute, its
 // parameter in four bytes, and where the piece around it goes on and ends.
-pub const FRAME_LIMIT: usize = 16640;
+pub const FRAME_LIMIT: usize = (DEPTH_LIMIT + 1) * (EXPRESSION_LIMIT / 2);
 
-pub const RUN_SIZE: usize = 16896;
+pub const RUN_SIZE: usize = FRAME_LIMIT + 4 * DEPTH_LIMIT;
 
 // The rest of the running piece: of the question while no form is open, of the sheet inside a form.
 pub fn running<'a>(

@@ -15,10 +15,10 @@ use Rattle.engine.specs.Represents.{machineIn}
 use Rattle.engine.specs.Loop.{Invariant}
 use Rattle.engine.specs.Cost.{Moves}
 use Rattle.engine.specs.Cost as Cost
-use Rattle.engine.proofs.Bounds.{frames-fit}
+use Rattle.engine.proofs.Bounds.{represents-sized, frames-fit}
 use Rattle.engine.proofs.Start.{pieces}
 use Rattle.engine.proofs.Loop.{invariant-on, invariant-next}
-use Rattle.engine.proofs.Cost.{Sized, sized-after, part-moves, unframed-moves}
+use Rattle.engine.proofs.Cost.{part-moves, unframed-moves}
 use Rattle.runs.specs.Moves.{Rounds, at-first, and-then}
 
 module _ {sheet index question : List ℕ} {budget : ℕ} {lent : List ℕ} {kept : ℕ} {whole : Ended} {mem₀ : Memory} {first : Registers}
@@ -39,25 +39,18 @@ module _ {sheet index question : List ℕ} {budget : ℕ} {lent : List ℕ} {kep
         Cost.and-then moved (rw (now .room) at (invariant-next now limit (s .skip) (s .packed) (s .width) (s .packs) came)),
       )
 
-  first-sized : Sized (sheetOf sheet) (machineAt mem₀ first)
-  unfolding machineOf
-  first-sized =
-      let r = inv .represents in
-      record { good = r .good; small = r .small; few = omega (arith, r .holds .counted, r .holds .few) }
-
   module _ {limit n : ℕ} {mem : Memory} {m : Registers} (k : Rounds sheet index question budget limit mem₀ first n mem m) where
     -- from one pause to the next, say
-    pub rounds-by-steps : n ≤ 6 * (m .steps - first .steps) + 66561
+    pub rounds-by-steps : n ≤ 6 * (m .steps - first .steps) + 33281
     unfolding machineOf
-    rounds-by-steps = part-moves (pieces sheet _ (inv .represents .accepts)) first-sized (inv .within) (rounds-move k .1)
+    rounds-by-steps = part-moves (pieces sheet _ (inv .represents .accepts)) (represents-sized (inv .represents)) (inv .within) (rounds-move k .1)
 
     -- from the start of a run
-    pub run-rounds-by-steps : first .frames ≡ 0 → n ≤ 6 * (m .steps - first .steps) + 49921
+    pub run-rounds-by-steps : first .frames ≡ 0 → n ≤ 6 * (m .steps - first .steps) + 24961
     unfolding machineOf framesIn
     run-rounds-by-steps none =
         let (now, moved) = rounds-move k in
-        let sized = sized-after (pieces sheet _ (inv .represents .accepts)) first-sized moved in
-        omega (arith, unframed-moves (rw none) (inv .within) moved, sized .few, frames-fit (machineAt mem m) (sized .small))
+        omega (arith, unframed-moves (rw none) (inv .within) moved, frames-fit (represents-sized (now .represents)))
 
-    pub run-rounds-by-budget : first .frames ≡ 0 → n ≤ 6 * budget + 49921
+    pub run-rounds-by-budget : first .frames ≡ 0 → n ≤ 6 * budget + 24961
     run-rounds-by-budget none = omega (arith, run-rounds-by-steps none, rounds-move k .0 .within)

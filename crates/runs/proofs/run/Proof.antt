@@ -1,5 +1,5 @@
 -- `runs::run` meets its contract. The loop's invariant: what holds from move to move holds of every call whose run this is (`Round`). The measure is the
--- machine's (Cost.antt of crate engine): it falls in each round, and starts at 6 × budget + 49,921, so it bounds the rounds. Cost.antt of this crate says so of
+-- machine's (Cost.antt of crate engine): it falls in each round, and starts at 6 × budget + 24,961, so it bounds the rounds. Cost.antt of this crate says so of
 -- the rounds by themselves, and by the steps that they count.
 use Rattle.runs.proofs.Rounds.{Round, first-round, round-less, round-again, round-pauses, round-finishes, round-stops, paused-linked, finished-linked, stopped-linked, store-stays, links-stay, run-stays}
 use Rattle.engine.specs.Ready.{memoryOf}
