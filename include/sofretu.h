@@ -26,7 +26,7 @@ extern "C" {
  * caller makes them, lends them, and looks at nothing inside. */
 #define SOFRETU_SHEET_WORDS 33282
 #define SOFRETU_STORE_WORDS 9216
-#define SOFRETU_RUN_WORDS 16896
+#define SOFRETU_RUN_WORDS 8576
 
 typedef struct {
     uint32_t words[SOFRETU_SHEET_WORDS];

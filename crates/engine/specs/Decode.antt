@@ -5,7 +5,7 @@ use mathlib.Core.Path.{_≡_}
 use Prim.Native.Nat.{ℕ, zero, suc, _+_, _*_, _-_, _/_, _%_, _≤_, _<_}
 use lib.Dec.{eqb}
 use lib.ListN.{length, take, drop, getD}
-use Rattle.saiga.specs.Limits.{depthLimit}
+use Rattle.saiga.specs.Limits.{expressionLimit, depthLimit}
 use Rattle.saiga.specs.Values.{baseOf, ofWord, toWord}
 use Rattle.saiga.specs.declared.Value.{Value}
 use Rattle.saiga.specs.Sheet.{Sheet, emptySheet, Checked, refused_at-place_, accepted, checkSheet}
@@ -38,13 +38,13 @@ entriesOf (accepted entries) = entries
 -- A frame has two bytes of its piece at least, used or still to come to: so there are at most 128 in each of 65 pieces, the question and the rules of 64
 -- open forms (Bounds.antt).
 abbrev pub frameLimit : ℕ
-frameLimit = 8320
+frameLimit = (depthLimit + 1) * (expressionLimit / 2)
 
 abbrev pub formsSize : ℕ
-formsSize = 256
+formsSize = 4 * depthLimit
 
 abbrev pub runSize : ℕ
-runSize = 8576
+runSize = frameLimit + formsSize
 
 unfoldable pub wordsIn : List ℕ → List ℕ
 wordsIn run = take frameLimit run

@@ -23,7 +23,7 @@ const SHEET: usize = 33_282;
 /// How many words a checked store has.
 const STORE: usize = 9_216;
 /// How many words a run has.
-const RUN: usize = 16_896;
+const RUN: usize = 8_576;
 
 /// What the check of a sheet leaves for the questions to it.
 #[derive(Clone)]

@@ -89,16 +89,22 @@ impl Sizes {
         Sizes(sizes)
     }
 
-    /// A number, a name, or sums and products of these; sums in brackets.
+    /// A number, a name, or sums, products and quotients of these; sums and quotients in brackets.
     fn value(&self, text: &str) -> usize {
         if let Some((inner, rest)) = text.strip_prefix('(').and_then(|t| t.split_once(") * ")) {
             return self.value(inner) * self.value(rest);
+        }
+        if let Some(inner) = text.strip_prefix('(').and_then(|t| t.strip_suffix(')')) {
+            return self.value(inner);
         }
         if let Some((left, right)) = text.split_once(" + ") {
             return self.value(left) + self.value(right);
         }
         if let Some((left, right)) = text.split_once(" * ") {
             return self.value(left) * self.value(right);
+        }
+        if let Some((left, right)) = text.split_once(" / ") {
+            return self.value(left) / self.value(right);
         }
         match self.0.get(text) {
             Some(value) => self.value(value),

@@ -41,7 +41,7 @@ impl Default for Scratch {
     }
 }
 
-/// A question put to a sheet and a lent store: the answer and, in the call's store, the bytes lent back. It takes some 280 KB of
+/// A question put to a sheet and a lent store: the answer and, in the call's store, the bytes lent back. It takes some 215 KB of
 /// stack.
 pub fn ask(call: Call) -> Answer {
     ask_in(call, &mut Scratch::default())

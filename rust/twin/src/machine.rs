@@ -12,8 +12,8 @@ use crate::values::{Function, Value, NULL};
 
 /// How many forms can be open.
 const MOST_OPEN: usize = 64;
-/// A question and each open form has a frame for each of its bytes at most.
-const MOST_FRAMES: usize = LONGEST * (1 + MOST_OPEN);
+/// A question and each open form has a frame for every two of its bytes at most.
+const MOST_FRAMES: usize = LONGEST / 2 * (1 + MOST_OPEN);
 
 /// What waits for a value.
 #[derive(Clone, Copy)]
