@@ -28,7 +28,7 @@ use Rattle.engine.specs.Cost.{Moves, at-first, and-then, credit, credits
 
 -- ---- What every move keeps
 
--- a move, and what comes after it, is paid for
+-- A move is paid for (Cost.antt of specs/), counts nothing down, and goes no further over the budget.
 record Pays (budget : ℕ) (m m′ : Machine) : Type 0 where
   pays : 1 + credits (m′ .frames) + modeCredit (m′ .mode) + 3 * length (m .frames) + 6 * m .steps
       ≤ credits (m .frames) + modeCredit (m .mode) + 3 * length (m′ .frames) + 6 * m′ .steps
@@ -233,12 +233,13 @@ represents-sized r = record { good = r .good; small = r .small; few = omega (ari
 
 -- ---- The cost of a move
 
--- so the measure falls
+-- It is paid for, so the measure falls,
 pub move-falls : {s : Sheet} {capacity budget : ℕ} {m m′ : Machine} → Sized s m → m .steps ≤ budget → Next s capacity budget m m′
     → measure budget m′ < measure budget m
 unfolding measure
 move-falls z below n = let k = next-on n .cost in omega (arith, k, frames-fit z, next-on n .fit)
 
+-- and so is any number of moves
 pub moves-cost : {s : Sheet} {capacity budget n : ℕ} {first m : Machine} → Moves s capacity budget first n m
     → (n + credits (m .frames) + modeCredit (m .mode) + 3 * length (first .frames) + 6 * first .steps
     ≤ credits (first .frames) + modeCredit (first .mode) + 3 * length (m .frames) + 6 * m .steps)

@@ -11,9 +11,10 @@ pub data Moves (s : Sheet) (capacity budget : ℕ) (first : Machine) : ℕ → M
   at-first : Moves s capacity budget first 0 first
   and-then : {n : ℕ} {m m′ : Machine} → Moves s capacity budget first n m → Next s capacity budget m m′ → Moves s capacity budget first (suc n) m′
 
--- A counted step pays for six moves, and room for a frame for three. A push uses that room: one of the three is the push itself, two stay with
--- the frame, for the value of its first part and for the move that gives it that value. Room that comes back must be paid for. A counted step does so
--- where it takes its frame away; a form and a branch that is passed over, which moves that are not counted take away, have four from the step that made them.
+-- A counted step pays for six moves, and room for a frame for three. A push uses that room: one of the three is the push itself, two stay with the
+-- frame, for the move that gives it its first value and for the head that is read next. Room that comes back must be paid for again. Where a counted step
+-- takes its frame away, the step pays. A form, and a branch that is passed over, are taken away by moves that are not counted: they have four from the step
+-- that made them.
 unfoldable pub credit : Frame → ℕ
 credit on-if = 2
 credit on-left = 2
@@ -27,7 +28,7 @@ unfoldable pub credits : List Frame → ℕ
 credits [] = 0
 credits (f ∷ fs) = credit f + credits fs
 
--- An expression that is due has one more, for its own head.
+-- An expression that is due has one, for its own head.
 unfoldable pub modeCredit : Mode → ℕ
 modeCredit evaluating = 1
 modeCredit (returning v) = 0

@@ -128,7 +128,7 @@ pub extern "C" fn sofretu_ask_in<'a>(
     lay(a, answer);
 }
 
-// A question call. It takes some 215 KB of stack.
+// A question call. Its scratch takes some 210 KB of stack.
 #[no_mangle]
 pub extern "C" fn sofretu_ask<'a>(
     sheet: &'a [u8],
