@@ -22,7 +22,7 @@ use Rattle.engine.proofs.Heads.{none-inside}
 use Rattle.engine.specs.FrameWords.{kindOf, ifKind, skipKind}
 use Rattle.engine.specs.Decode.{frameLimit, runSize, wordsIn, formsIn, sheetOf, formOccurrence, framesIn, modeOf, machineOf}
 use Rattle.engine.specs.Steps.{Memory}
-use Rattle.engine.specs.Represents.{machineIn, Represents}
+use Rattle.engine.specs.Represents.{Represents}
 use Rattle.engine.specs.Ready.{memoryOf, NodeReady, ParameterReady, HeadReady, ReadReady, FrameReady}
 use Rattle.engine.specs.declared.Registers.{Registers}
 use Rattle.engine.proofs.Decoding.{WordOf, if-kind, skip-kind, top-frame, frames-count, innermost-form, rest-length}

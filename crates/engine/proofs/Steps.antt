@@ -203,9 +203,6 @@ module _ (sheet question : List ℕ) (budget limit : ℕ) (mem : Memory) (m : Re
     counted : length frames ≡ m .frames
     counted = frames-count sheet question (mem .forms) (mem .words) (m .frames) (m .forms)
 
-    few : length (openForms frames) ≤ 64
-    few = omega (arith, r .holds .counted, r .holds .few)
-
     -- an evaluating machine stands before an expression, and has room for a frame
     pub read-matches : m .returning ≡ false → Matched (Steps.readNext sheet index mem m bytes)
     unfolding Steps.readNext machineOf modeOf
