@@ -2,12 +2,15 @@
 //! table of nanoseconds and ratios (docs/MEASUREMENTS.md).
 
 mod host;
+mod hostile;
 mod inputs;
 mod library;
 mod measure;
+mod padding;
 mod programs;
 mod rows;
 
+use std::hint::black_box;
 use std::process::ExitCode;
 use std::time::Duration;
 
@@ -15,57 +18,81 @@ use trials::commands;
 
 use measure::{measure, Effort};
 use programs::{Engine, Input, Oracle, Program, Twin, Work};
-use rows::rows;
 
-const USAGE: &str = "usage: bench [--quick]";
+const USAGE: &str = "usage: bench [--quick] [TEXT]\nTEXT leaves out the rows that do not name it";
 
 /// Many short repetitions: on a busy machine some of them are left alone.
 const THOROUGH: Effort = Effort {
     repetitions: 101,
     time: Duration::from_millis(3),
+    most: Duration::from_secs(3),
 };
 
 /// Enough to see that the programs agree and that the table is whole.
 const QUICK: Effort = Effort {
     repetitions: 3,
     time: Duration::from_millis(1),
+    most: Duration::from_secs(1),
 };
 
 fn main() -> ExitCode {
     commands::main(|words| match *words {
-        [] => print_table(&THOROUGH),
-        ["--quick"] => print_table(&QUICK),
+        [] => print_table(&THOROUGH, ""),
+        ["--quick"] => print_table(&QUICK, ""),
+        [text] if !text.starts_with('-') => print_table(&THOROUGH, text),
+        ["--quick", text] => print_table(&QUICK, text),
         _ => Err(USAGE.into()),
     })
 }
 
-fn print_table(effort: &Effort) -> Result<(), String> {
+/// Prints the rows whose names have a text in them.
+fn print_table(effort: &Effort, text: &str) -> Result<(), String> {
+    black_box(padding::place());
     let mut programs: [Box<dyn Program>; 3] = [
         Box::new(Engine::default()),
         Box::new(Twin::default()),
         Box::new(Oracle),
     ];
     println!(
-        "Measured on {} on {}; the least of {} repetitions.\n",
+        "Measured on {} on {}; the least of {} repetitions; {} bytes before the programs.\n",
         host::date(),
         host::machine(),
-        effort.repetitions
+        effort.repetitions,
+        padding::BYTES
     );
-    println!("| Row | Engine, ns | Twin, ns | Oracle, ns | Engine/twin | Engine/oracle |");
-    println!("|---|---|---|---|---|---|");
-    for row in rows(left) {
-        let [engine, twin, oracle] = measure(&row, &mut programs, effort)?;
+    println!("| Row | {COLUMNS} |");
+    println!("|---|{}", RULE.repeat(5));
+    let ordinary = rows::ordinary(left);
+    for row in ordinary.iter().filter(|row| row.name.contains(text)) {
+        let [times] = measure([row], &mut programs, effort)?;
+        println!("| {} | {} |", row.name, columns(times));
+    }
+    println!("\n| Hostile row | {COLUMNS} | Ordinary row | Engine | Twin | Oracle |");
+    println!("|---|{}", RULE.repeat(9));
+    let mut hostile = rows::hostile();
+    hostile.retain(|(row, _)| row.name.contains(text));
+    for (row, kind) in hostile {
+        let kind = ordinary.iter().find(|row| row.name == kind);
+        let kind = kind.expect("an ordinary row of this name");
+        let [times, others] = measure([&row, kind], &mut programs, effort)?;
+        let [engine, twin, oracle] = [0, 1, 2].map(|which| times[which] / others[which]);
         println!(
-            "| {} | {} | {} | {} | {:.2} | {:.2} |",
+            "| {} | {} | {} | {engine:.2} | {twin:.2} | {oracle:.2} |",
             row.name,
-            nanoseconds(engine),
-            nanoseconds(twin),
-            nanoseconds(oracle),
-            engine / twin,
-            engine / oracle
+            columns(times),
+            kind.name
         );
     }
     Ok(())
+}
+
+const COLUMNS: &str = "Engine, ns | Twin, ns | Oracle, ns | Engine/twin | Engine/oracle";
+const RULE: &str = "---|";
+
+/// The columns of every row.
+fn columns([engine, twin, oracle]: [f64; 3]) -> String {
+    let times = [engine, twin, oracle].map(nanoseconds).join(" | ");
+    format!("{times} | {:.2} | {:.2}", engine / twin, engine / oracle)
 }
 
 /// An input with the store that the second evaluator leaves after its question.

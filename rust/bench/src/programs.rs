@@ -15,6 +15,8 @@ const BUDGET: u64 = 1_000_000;
 #[derive(Clone, Default)]
 pub struct Input {
     pub sheet: Vec<u8>,
+    /// The questions put to the store before the one that is measured.
+    pub before: Vec<Vec<u8>>,
     pub question: Vec<u8>,
     pub store: Vec<u8>,
     pub kept: u64,
@@ -38,10 +40,12 @@ impl Input {
 pub enum Work {
     /// The store's check and the question.
     Question,
-    /// The question alone, to one store.
+    /// The question alone, to one store, after the questions before it.
     Kept,
     /// The whole call, in the program's own scratch.
     Ask,
+    /// The whole call, in scratch that the library clears. The other programs have no such call, and make the one before.
+    AskCleared,
     /// The whole call, in lent scratch. The second evaluator has no such call, and makes the other.
     AskIn,
     CheckSheet,
@@ -104,10 +108,17 @@ impl Program for Engine {
             Work::Kept => {
                 let mut sheet = scratch.check(sheet).expect(CHECKED);
                 let mut store = sheet.lend(lent, input.kept).expect(CHECKED);
+                for question in &input.before {
+                    store.ask(question, BUDGET);
+                }
                 timed(runs, || store.ask(question, BUDGET))
             }
             // SAFETY: the programs run on the main thread, whose stack has more than the call needs.
             Work::Ask => timed(runs, || unsafe { sofretu_sys::ask(input.call(lent)) }),
+            // SAFETY: as above.
+            Work::AskCleared => timed(runs, || unsafe {
+                sofretu_sys::ask_cleared(input.call(lent))
+            }),
             Work::AskIn => timed(runs, || scratch.ask(input.call(lent))),
             Work::CheckSheet => timed(runs, || match scratch.check(sheet) {
                 Ok(sheet) => {
@@ -142,29 +153,31 @@ impl Program for Twin {
         let mut store = input.store.clone();
         let lent = &mut store[..];
         let refused = |refusal: twin::Refusal| stopped(refusal.stop as i64, refusal.place as i64);
+        let stack = &mut scratch.stack;
+        let mut put = |sheet: &Sheet, store: &mut Store, question: &[u8]| {
+            twin::ask_checked(sheet, store, black_box(question), BUDGET, stack).fields()
+        };
         let (time, fields) = match work {
             Work::Question => {
                 let sheet = Sheet::check(sheet, &mut scratch.index).expect(CHECKED);
                 timed(runs, || {
                     let store =
                         Store::check(&sheet, black_box(lent), input.kept, &mut scratch.links);
-                    let mut store = store.expect(CHECKED);
-                    let question = black_box(question);
-                    twin::ask_checked(&sheet, &mut store, question, BUDGET, &mut scratch.stack)
-                        .fields()
+                    put(&sheet, &mut store.expect(CHECKED), question)
                 })
             }
             Work::Kept => {
                 let sheet = Sheet::check(sheet, &mut scratch.index).expect(CHECKED);
                 let store = Store::check(&sheet, lent, input.kept, &mut scratch.links);
                 let mut store = store.expect(CHECKED);
-                timed(runs, || {
-                    let question = black_box(question);
-                    twin::ask_checked(&sheet, &mut store, question, BUDGET, &mut scratch.stack)
-                        .fields()
-                })
+                for question in &input.before {
+                    put(&sheet, &mut store, question);
+                }
+                timed(runs, || put(&sheet, &mut store, question))
             }
-            Work::Ask => timed(runs, || twin::ask(black_box(input.call(lent))).fields()),
+            Work::Ask | Work::AskCleared => {
+                timed(runs, || twin::ask(black_box(input.call(lent))).fields())
+            }
             Work::AskIn => timed(runs, || {
                 twin::ask_in(black_box(input.call(lent)), scratch).fields()
             }),
@@ -201,7 +214,7 @@ impl Program for Oracle {
         let mut store = input.store.clone();
         let lent = &mut store[..];
         let refused = |stop: Stop| stopped(stop.reason as i64, stop.place as i64);
-        let put = |sheet: &Sheet, store: &mut Store| {
+        let put = |sheet: &Sheet, store: &mut Store, question: &[u8]| {
             let question = read_question(black_box(question), sheet).expect(CHECKED);
             ask_admitted(sheet, store, &question, BUDGET).fields()
         };
@@ -210,15 +223,18 @@ impl Program for Oracle {
                 let sheet = Sheet::read(sheet).expect(CHECKED);
                 timed(runs, || {
                     let mut store = Store::open(lent, input.kept, &sheet).expect(CHECKED);
-                    put(&sheet, &mut store)
+                    put(&sheet, &mut store, question)
                 })
             }
             Work::Kept => {
                 let sheet = Sheet::read(sheet).expect(CHECKED);
                 let mut store = Store::open(lent, input.kept, &sheet).expect(CHECKED);
-                timed(runs, || put(&sheet, &mut store))
+                for question in &input.before {
+                    put(&sheet, &mut store, question);
+                }
+                timed(runs, || put(&sheet, &mut store, question))
             }
-            Work::Ask | Work::AskIn => timed(runs, || {
+            Work::Ask | Work::AskCleared | Work::AskIn => timed(runs, || {
                 ask(black_box(sheet), lent, input.kept, question, BUDGET).fields()
             }),
             Work::CheckSheet => timed(runs, || match Sheet::read(black_box(sheet)) {
@@ -237,4 +253,13 @@ impl Program for Oracle {
         };
         (time, Outcome { fields, store })
     }
+}
+
+/// Steps and kept of an input's question, which is answered with a value.
+#[cfg(test)]
+pub fn counts(input: &Input) -> (i64, i64) {
+    let (_, outcome) = Oracle.run(Work::Kept, input, 1);
+    let [number, _, _, _, steps, kept] = outcome.fields;
+    assert_eq!(number, 0);
+    (steps, kept)
 }

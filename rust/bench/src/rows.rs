@@ -1,5 +1,6 @@
 //! The rows of the table: what each program does, on what, and how it is counted.
 
+use crate::hostile;
 use crate::inputs;
 use crate::programs::{Input, Outcome, Work};
 
@@ -10,6 +11,13 @@ pub enum Per {
     Byte,
     Run,
 }
+
+/// The names of the rows that others are held against.
+const DEEP: &str = "Step: deep chains";
+const DENSE: &str = "Step: AttrApp-dense, a store of 1,024 fills";
+const NO_STORE: &str = "Step: capacity 0";
+const CHOICES: &str = "Step: IF- and application-dense";
+const FULL_CHECK: &str = "Store check, 1,024 entries";
 
 pub struct Row {
     pub name: &'static str,
@@ -29,15 +37,17 @@ impl Row {
     }
 }
 
-/// The rows in their order. `left` gives the input with the store that its question leaves.
-pub fn rows(left: impl Fn(&Input) -> Input) -> Vec<Row> {
-    let row = |name, work, per, input| Row {
+fn row(name: &'static str, work: Work, per: Per, input: Input) -> Row {
+    Row {
         name,
         work,
         per,
         input,
-    };
-    let kept = inputs::deepest(&left(&inputs::chains()));
+    }
+}
+
+/// The rows in their order. `left` gives the input with the store that its question leaves.
+pub fn ordinary(left: impl Fn(&Input) -> Input) -> Vec<Row> {
     let filled = left(&inputs::hops(1_024));
     let with_kept = |kept| Input {
         kept,
@@ -45,30 +55,31 @@ pub fn rows(left: impl Fn(&Input) -> Input) -> Vec<Row> {
     };
     let kib = |size: usize| inputs::sized(size * 1_024);
     use Per::{Byte, Run, Step};
-    use Work::{Ask, AskIn, CheckSheet, CheckStore, Kept, Question};
+    use Work::{Ask, AskCleared, AskIn, CheckSheet, CheckStore, Kept, Question};
     vec![
-        row("Step: deep chains", Question, Step, inputs::chains()),
-        row(
-            "Step: AttrApp-dense, a store of 1,024 fills",
-            Question,
-            Step,
-            inputs::hops(1_024),
-        ),
-        row("Step: capacity 0", Question, Step, inputs::hops(0)),
-        row(
-            "Step: IF- and application-dense",
-            Question,
-            Step,
-            inputs::branches(),
-        ),
+        row(DEEP, Question, Step, inputs::chains()),
+        row(DENSE, Question, Step, inputs::hops(1_024)),
+        row(NO_STORE, Question, Step, inputs::hops(0)),
+        row(CHOICES, Question, Step, inputs::branches()),
         row(
             "Step: parameterised",
             Question,
             Step,
             inputs::parameterised(),
         ),
-        row("One kept figure, sheet and store checked", Kept, Run, kept),
+        row(
+            "One kept figure, sheet and store checked",
+            Kept,
+            Run,
+            inputs::kept_figure(),
+        ),
         row("Whole `ask`, sheet L", Ask, Run, inputs::sheet_l()),
+        row(
+            "Whole `ask` in cleared scratch, sheet L",
+            AskCleared,
+            Run,
+            inputs::sheet_l(),
+        ),
         row(
             "Whole `ask` in lent scratch, sheet L",
             AskIn,
@@ -86,11 +97,66 @@ pub fn rows(left: impl Fn(&Input) -> Input) -> Vec<Row> {
         row("Sheet check, a byte of 64 KiB", CheckSheet, Byte, kib(64)),
         row("Store check, 0 entries", CheckStore, Run, with_kept(0)),
         row("Store check, 128 entries", CheckStore, Run, with_kept(128)),
-        row(
-            "Store check, 1,024 entries",
-            CheckStore,
-            Run,
-            with_kept(1_024),
+        row(FULL_CHECK, CheckStore, Run, with_kept(1_024)),
+    ]
+}
+
+/// The rows for what a hostile owner would choose, each with the name of the ordinary row of its kind.
+pub fn hostile() -> Vec<(Row, &'static str)> {
+    use Per::{Run, Step};
+    use Work::{CheckStore, Kept, Question};
+    let step = |name, input, kind| (row(name, Question, Step, input), kind);
+    let check = |name, input| (row(name, CheckStore, Run, input), FULL_CHECK);
+    vec![
+        step("Step: look-ups, spread keys", hostile::spread(), DENSE),
+        (
+            row(
+                "Step: look-ups, one bucket filled by questions",
+                Kept,
+                Step,
+                hostile::one_bucket_by_questions(),
+            ),
+            DENSE,
+        ),
+        step(
+            "Step: look-ups, one bucket lent",
+            hostile::one_bucket(),
+            DENSE,
+        ),
+        step(
+            "Step: look-ups that miss, one bucket lent",
+            hostile::one_bucket_missed(),
+            DENSE,
+        ),
+        step(
+            "Step: a full store that misses",
+            hostile::full_store(),
+            DENSE,
+        ),
+        step(
+            "Step: the widest branch, second of its IF",
+            hostile::widest_branch(true),
+            CHOICES,
+        ),
+        step(
+            "Step: the widest branch, first of its IF",
+            hostile::widest_branch(false),
+            CHOICES,
+        ),
+        step(
+            "Step: the deepest nesting",
+            hostile::deepest_nesting(),
+            DEEP,
+        ),
+        step(
+            "Step: the widest fan-out",
+            hostile::widest_fan_out(),
+            NO_STORE,
+        ),
+        check("Store check, 1,024 spread keys", hostile::spread()),
+        check(
+            "Store check, 1,024 keys of one bucket",
+            hostile::one_bucket(),
         ),
     ]
 }

@@ -73,7 +73,8 @@ impl<'a> Run<'a, '_> {
                     let (_, parameter) = here.expect("a question does not say 0x31");
                     return Ok(parameter);
                 }
-                Expr::If(condition, yes, no) => {
+                Expr::If(parts) => {
+                    let [condition, yes, no] = &**parts;
                     let condition = self.evaluate(condition, here)?;
                     self.count()?;
                     expr = match condition {
@@ -82,13 +83,15 @@ impl<'a> Run<'a, '_> {
                         other => unreachable!("ill typed: IF {other:?}"),
                     };
                 }
-                Expr::Apply(function, argument) => {
+                Expr::Apply(parts) => {
+                    let [function, argument] = &**parts;
                     let function = self.evaluate(function, here)?;
                     let argument = self.evaluate(argument, here)?;
                     self.count()?;
                     return Ok(function.apply(argument));
                 }
-                Expr::Attribute(attribute, node, parameter) => {
+                Expr::Attribute(attribute, parts) => {
+                    let [node, parameter] = &**parts;
                     let node = self.evaluate(node, here)?;
                     let parameter = self.evaluate(parameter, here)?;
                     return self.attribute(node, *attribute, parameter);
@@ -117,20 +120,19 @@ impl<'a> Run<'a, '_> {
             attribute,
             parameter,
         };
-        if let Some(value) = self.store.value(&occurrence) {
-            return Ok(value);
-        }
-        let value = match self.sheet.definition(node, attribute) {
-            Definition::Figure(value) => value,
+        match self.sheet.definition(node, attribute) {
+            Definition::Figure(figure) => Ok(self.store.kept_or(occurrence, figure)),
             Definition::Rule(expr) => {
+                if let Some(value) = self.store.value(&occurrence) {
+                    return Ok(value);
+                }
                 self.open += 1;
                 let value = self.evaluate(expr, Some((node, parameter)))?;
                 self.open -= 1;
-                value
+                self.store.write(occurrence, value);
+                Ok(value)
             }
-        };
-        self.store.write(occurrence, value);
-        Ok(value)
+        }
     }
 
     /// Stop 15: "a counted step due with the whole budget used".

@@ -9,10 +9,12 @@ pub const LONGEST: usize = 256;
 #[derive(Clone, Debug, PartialEq)]
 pub enum Expr {
     Literal(Value),
-    If(Box<Expr>, Box<Expr>, Box<Expr>),
-    Apply(Box<Expr>, Box<Expr>),
-    /// Attribute number, node, parameter.
-    Attribute(u8, Box<Expr>, Box<Expr>),
+    /// Condition, first branch, second branch.
+    If(Box<[Expr; 3]>),
+    /// Function, argument.
+    Apply(Box<[Expr; 2]>),
+    /// Attribute number; node, parameter.
+    Attribute(u8, Box<[Expr; 2]>),
     ThisNode,
     Parameter,
 }
@@ -47,19 +49,22 @@ impl Expr {
         match self {
             Expr::Literal(Value::Function(function)) => Some(function.type_of()),
             Expr::Literal(value) => value.base().map(Type::Base),
-            Expr::If(condition, yes, no) => {
+            Expr::If(parts) => {
+                let [condition, yes, no] = &**parts;
                 let condition = condition.type_of(scope)?;
                 let yes = yes.type_of(scope)?;
                 let no = no.type_of(scope)?;
-                (condition == Type::Base(Base::Bool) && yes == no).then_some(yes)
+                (condition == Type::BOOL && yes == no).then_some(yes)
             }
-            Expr::Apply(function, argument) => {
+            Expr::Apply(parts) => {
+                let [function, argument] = &**parts;
                 let Type::Function(from, to) = function.type_of(scope)? else {
                     return None;
                 };
                 (argument.type_of(scope)? == Type::Base(from)).then_some(*to)
             }
-            Expr::Attribute(attribute, node, parameter) => {
+            Expr::Attribute(attribute, parts) => {
+                let [node, parameter] = &**parts;
                 let declared = scope.attributes[usize::from(*attribute)];
                 let node = node.type_of(scope)?;
                 let parameter = parameter.type_of(scope)?;
@@ -74,11 +79,16 @@ impl Expr {
     /// How many expressions lie one inside the other.
     pub fn depth(&self) -> usize {
         1 + match self {
-            Expr::If(a, b, c) => a.depth().max(b.depth()).max(c.depth()),
-            Expr::Apply(a, b) | Expr::Attribute(_, a, b) => a.depth().max(b.depth()),
+            Expr::If(parts) => deepest(&**parts),
+            Expr::Apply(parts) | Expr::Attribute(_, parts) => deepest(&**parts),
             Expr::Literal(_) | Expr::ThisNode | Expr::Parameter => 0,
         }
     }
+}
+
+/// The depth of the deepest part.
+fn deepest(parts: &[Expr]) -> usize {
+    parts.iter().map(Expr::depth).max().unwrap_or(0)
 }
 
 /// The expression at the front of `bytes`, and the bytes after it. "Expressions are written head first."
@@ -114,13 +124,12 @@ fn read_head<'b>(bytes: &'b [u8], scope: Scope) -> Option<(Expr, &'b [u8])> {
             let (condition, rest) = read_head(rest, scope)?;
             let (yes, rest) = read_head(rest, scope)?;
             let (no, rest) = read_head(rest, scope)?;
-            let expr = Expr::If(Box::new(condition), Box::new(yes), Box::new(no));
-            Some((expr, rest))
+            Some((Expr::If(Box::new([condition, yes, no])), rest))
         }
         0x21 => {
             let (function, rest) = read_head(rest, scope)?;
             let (argument, rest) = read_head(rest, scope)?;
-            Some((Expr::Apply(Box::new(function), Box::new(argument)), rest))
+            Some((Expr::Apply(Box::new([function, argument])), rest))
         }
         0x22 => {
             let ([attribute], rest) = take::<1>(rest)?;
@@ -129,8 +138,8 @@ fn read_head<'b>(bytes: &'b [u8], scope: Scope) -> Option<(Expr, &'b [u8])> {
             }
             let (node, rest) = read_head(rest, scope)?;
             let (parameter, rest) = read_head(rest, scope)?;
-            let expr = Expr::Attribute(attribute, Box::new(node), Box::new(parameter));
-            Some((expr, rest))
+            let parts = Box::new([node, parameter]);
+            Some((Expr::Attribute(attribute, parts), rest))
         }
         0x30 => scope.parameter.map(|_| (Expr::ThisNode, rest)),
         0x31 => scope.parameter.map(|_| (Expr::Parameter, rest)),

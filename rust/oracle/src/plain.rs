@@ -114,20 +114,23 @@ fn descend<'a>(mut written: Written<'a>, around: &mut Vec<Around<'a>>) -> Value 
             Expr::Literal(value) => return *value,
             Expr::ThisNode => return written.occurrence.expect("0x30 stands in a rule").0,
             Expr::Parameter => return written.occurrence.expect("0x31 stands in a rule").1,
-            Expr::If(condition, yes, no) => {
+            Expr::If(parts) => {
+                let [condition, yes, no] = &**parts;
                 around.push(Around::Condition {
                     yes: written.inner(yes),
                     no: written.inner(no),
                 });
                 condition
             }
-            Expr::Apply(left, right) => {
+            Expr::Apply(parts) => {
+                let [left, right] = &**parts;
                 around.push(Around::Left {
                     right: written.inner(right),
                 });
                 left
             }
-            Expr::Attribute(attribute, node, parameter) => {
+            Expr::Attribute(attribute, parts) => {
+                let [node, parameter] = &**parts;
                 around.push(Around::Node {
                     attribute: *attribute,
                     parameter: written.inner(parameter),

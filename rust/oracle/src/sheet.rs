@@ -19,9 +19,9 @@ pub struct Sheet {
     attributes: Vec<Attribute>,
     /// The kind of each node.
     nodes: Vec<u8>,
-    /// By node and attribute, as `pair` numbers them.
+    /// By node and declared attribute.
     figures: Vec<Option<Value>>,
-    /// By kind and attribute, likewise.
+    /// By kind and declared attribute; none before the first rule.
     rules: Vec<Option<Expr>>,
     deepest_rule: usize,
 }
@@ -76,10 +76,10 @@ impl Sheet {
         if bytes.len() > LONGEST_SHEET {
             return Err(Stop::of(Reason::SheetLength));
         }
-        let mut sheet = Sheet::default();
-        sheet
-            .rules
-            .resize(usize::from(KINDS) * MOST_ATTRIBUTES, None);
+        let mut sheet = Sheet {
+            attributes: Vec::with_capacity(MOST_ATTRIBUTES),
+            ..Sheet::default()
+        };
         let mut at = 0;
         let mut reached = Part::Attributes;
         while reached != Part::End {
@@ -145,7 +145,7 @@ impl Sheet {
         }
         self.nodes.push(kind);
         self.figures
-            .resize(self.nodes.len() * MOST_ATTRIBUTES, None);
+            .resize(self.nodes.len() * self.attributes.len(), None);
         Ok(())
     }
 
@@ -157,7 +157,8 @@ impl Sheet {
         let declared = self.declared(attribute).ok_or(Reason::Operand)?;
         let value =
             Value::from_bytes(declared.result, value, self.nodes.len()).ok_or(Reason::Operand)?;
-        match self.figures[pair(usize::from(node), attribute)].replace(value) {
+        let place = self.place(usize::from(node), attribute);
+        match self.figures[place].replace(value) {
             Some(_) => Err(Reason::SecondDefinition),
             None => Ok(()),
         }
@@ -169,7 +170,11 @@ impl Sheet {
             return Err(Reason::Operand);
         }
         let declared = self.declared(attribute).ok_or(Reason::Operand)?;
-        let place = pair(usize::from(kind), attribute);
+        if self.rules.is_empty() {
+            let places = usize::from(KINDS) * self.attributes.len();
+            self.rules.resize(places, None);
+        }
+        let place = self.place(usize::from(kind), attribute);
         if self.rules[place].is_some() {
             return Err(Reason::SecondDefinition);
         }
@@ -195,18 +200,17 @@ impl Sheet {
         (0..self.nodes.len())
             .flat_map(|node| attributes.clone().map(move |attribute| (node, attribute)))
             .find(|(node, attribute)| self.lookup(*node, *attribute).is_none())
-            .map(|(node, attribute)| pair(node, attribute))
+            .map(|(node, attribute)| node * MOST_ATTRIBUTES + usize::from(attribute))
     }
 
     /// The definition of a declared pair, where there is one.
     fn lookup(&self, node: usize, attribute: u8) -> Option<Definition<'_>> {
-        if let Some(value) = self.figures[pair(node, attribute)] {
+        if let Some(value) = self.figures[self.place(node, attribute)] {
             return Some(Definition::Figure(value));
         }
         let kind = usize::from(self.nodes[node]);
-        self.rules[pair(kind, attribute)]
-            .as_ref()
-            .map(Definition::Rule)
+        let rule = self.rules.get(self.place(kind, attribute))?;
+        rule.as_ref().map(Definition::Rule)
     }
 
     /// The definition in force: "every declared pair (n, a) must have one".
@@ -239,13 +243,13 @@ impl Sheet {
         }
     }
 
+    /// The place of a declared attribute in the row of a node or kind.
+    fn place(&self, row: usize, attribute: u8) -> usize {
+        row * self.attributes.len() + usize::from(attribute)
+    }
+
     /// The depth of the deepest rule.
     pub fn deepest_rule(&self) -> usize {
         self.deepest_rule
     }
-}
-
-/// Node × 32 + attribute, or kind × 32 + attribute.
-fn pair(row: usize, attribute: u8) -> usize {
-    row * MOST_ATTRIBUTES + usize::from(attribute)
 }

@@ -1,6 +1,7 @@
 //! Document 01, "The steps", where it speaks of the store, and stops 9 and 10 of "Stops by origin".
 
-use std::collections::HashMap;
+use std::collections::hash_map::{Entry, HashMap};
+use std::hash::{Hash, Hasher};
 
 use crate::expr::take;
 use crate::sheet::Sheet;
@@ -13,11 +14,27 @@ pub const ENTRY: usize = 12;
 pub const MOST_ENTRIES: usize = 1_024;
 
 /// An attribute occurrence (n, a, v).
-#[derive(Clone, Copy, Debug, PartialEq, Eq, Hash)]
+#[derive(Clone, Copy, Debug, PartialEq, Eq)]
 pub struct Occurrence {
     pub node: u16,
     pub attribute: u8,
     pub parameter: Value,
+}
+
+impl Occurrence {
+    /// The first eight bytes of its entry.
+    fn to_bytes(self) -> [u8; 8] {
+        let [n0, n1] = self.node.to_le_bytes();
+        let [v0, v1, v2, v3] = self.parameter.to_bytes();
+        [n0, n1, self.attribute, 0, v0, v1, v2, v3]
+    }
+}
+
+impl Hash for Occurrence {
+    /// The hasher takes one number faster than the fields one by one.
+    fn hash<H: Hasher>(&self, state: &mut H) {
+        state.write_u64(u64::from_le_bytes(self.to_bytes()));
+    }
 }
 
 /// A lent store that has passed the checks, with its kept values by occurrence.
@@ -34,7 +51,7 @@ impl<'s> Store<'s> {
         if !well_shaped(bytes) || kept > capacity as u64 {
             return Err(Stop::of(Reason::StoreShape));
         }
-        let mut values = HashMap::new();
+        let mut values = HashMap::with_capacity(if kept > 0 { capacity } else { 0 });
         let entries = bytes.chunks_exact(ENTRY).take(kept as usize);
         for (number, entry) in entries.enumerate() {
             let faulty = Stop::at(Reason::StoreEntry, number);
@@ -54,19 +71,40 @@ impl<'s> Store<'s> {
         self.kept.get(occurrence).copied()
     }
 
+    /// The kept value of an occurrence, or else the one given, which CacheWrite then keeps.
+    pub fn kept_or(&mut self, occurrence: Occurrence, value: Value) -> Value {
+        if self.full() {
+            return self.value(&occurrence).unwrap_or(value);
+        }
+        self.reserve();
+        let at = self.kept.len() * ENTRY;
+        match self.kept.entry(occurrence) {
+            Entry::Occupied(kept) => *kept.get(),
+            Entry::Vacant(free) => {
+                let entry = &mut self.bytes[at..at + ENTRY];
+                entry[..8].copy_from_slice(&occurrence.to_bytes());
+                entry[8..].copy_from_slice(&value.to_bytes());
+                *free.insert(value)
+            }
+        }
+    }
+
     /// CacheWrite: "appends its occurrence if it is not kept and the store is not full; otherwise it changes nothing".
     pub fn write(&mut self, occurrence: Occurrence, value: Value) {
-        let at = self.kept.len() * ENTRY;
-        if at == self.bytes.len() || self.kept.contains_key(&occurrence) {
-            return;
+        if !self.full() {
+            self.kept_or(occurrence, value);
         }
-        let entry = &mut self.bytes[at..at + ENTRY];
-        entry[..2].copy_from_slice(&occurrence.node.to_le_bytes());
-        entry[2] = occurrence.attribute;
-        entry[3] = 0;
-        entry[4..8].copy_from_slice(&occurrence.parameter.to_bytes());
-        entry[8..].copy_from_slice(&value.to_bytes());
-        self.kept.insert(occurrence, value);
+    }
+
+    fn full(&self) -> bool {
+        self.kept.len() * ENTRY == self.bytes.len()
+    }
+
+    /// Room for all that the store can keep, before the first is kept. A store in which nothing is ever kept needs none.
+    fn reserve(&mut self) {
+        if self.kept.is_empty() {
+            self.kept.reserve(self.bytes.len() / ENTRY);
+        }
     }
 
     /// The number kept.

@@ -29,23 +29,20 @@ impl Base {
     }
 }
 
-/// The type of an expression: a base type, or a function from a base type.
-#[derive(Clone, Debug, PartialEq, Eq)]
+/// The type of an expression: a base type, or a function from a base type. No function takes more than two arguments, so what one
+/// leaves is one of a few types.
+#[derive(Clone, Copy, Debug, PartialEq, Eq)]
 pub enum Type {
     Base(Base),
-    Function(Base, Box<Type>),
+    Function(Base, &'static Type),
 }
 
 impl Type {
-    /// The type of a function that takes `arguments` one after the other.
-    pub fn function(arguments: &[Base], result: Base) -> Type {
-        arguments
-            .iter()
-            .rev()
-            .fold(Type::Base(result), |inner, argument| {
-                Type::Function(*argument, Box::new(inner))
-            })
-    }
+    pub const BOOL: Type = Type::Base(Base::Bool);
+    pub const INT: Type = Type::Base(Base::Int);
+    pub const INT_TO_BOOL: Type = Type::Function(Base::Int, &Type::BOOL);
+    pub const INT_TO_INT: Type = Type::Function(Base::Int, &Type::INT);
+    pub const NODE_TO_BOOL: Type = Type::Function(Base::Node, &Type::BOOL);
 }
 
 /// The functions, whose codes are 0 to 5 in this order.
@@ -75,14 +72,10 @@ impl Function {
 
     pub fn type_of(self) -> Type {
         match self {
-            Function::Le | Function::EqualInt => {
-                Type::function(&[Base::Int, Base::Int], Base::Bool)
-            }
-            Function::EqualNode => Type::function(&[Base::Node, Base::Node], Base::Bool),
-            Function::Not => Type::function(&[Base::Bool], Base::Bool),
-            Function::Add | Function::Subtract => {
-                Type::function(&[Base::Int, Base::Int], Base::Int)
-            }
+            Function::Le | Function::EqualInt => Type::Function(Base::Int, &Type::INT_TO_BOOL),
+            Function::EqualNode => Type::Function(Base::Node, &Type::NODE_TO_BOOL),
+            Function::Not => Type::Function(Base::Bool, &Type::BOOL),
+            Function::Add | Function::Subtract => Type::Function(Base::Int, &Type::INT_TO_INT),
         }
     }
 }

@@ -119,15 +119,13 @@ fn codes_name_types_and_functions() {
             None
         ]
     );
-    let int_to_bool = Type::Function(Base::Int, Box::new(Type::Base(Base::Bool)));
+    const BOOL: Type = Type::Base(Base::Bool);
+    const INT_TO_BOOL: Type = Type::Function(Base::Int, &BOOL);
     assert_eq!(
         Function::Le.type_of(),
-        Type::Function(Base::Int, Box::new(int_to_bool))
+        Type::Function(Base::Int, &INT_TO_BOOL)
     );
-    assert_eq!(
-        Function::Not.type_of(),
-        Type::Function(Base::Bool, Box::new(Type::Base(Base::Bool)))
-    );
+    assert_eq!(Function::Not.type_of(), Type::Function(Base::Bool, &BOOL));
 }
 
 #[test]

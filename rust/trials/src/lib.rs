@@ -5,6 +5,7 @@
 #![forbid(unsafe_code)]
 
 pub mod case;
+pub mod collide;
 pub mod commands;
 pub mod compare;
 pub mod demand3;

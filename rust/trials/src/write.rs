@@ -66,6 +66,14 @@ pub fn binary(code: u8, first: &[u8], second: &[u8]) -> Vec<u8> {
     apply(&apply(&function(code), first), second)
 }
 
+/// The sum of some parts, of which there is one at least.
+pub fn sum(parts: impl IntoIterator<Item = Vec<u8>>) -> Vec<u8> {
+    parts
+        .into_iter()
+        .reduce(|sum, part| binary(ADD, &sum, &part))
+        .expect("a sum has a part")
+}
+
 /// An attribute of a node.
 pub fn of(node: &[u8], attribute: u8, parameter: &[u8]) -> Vec<u8> {
     [&[0x22, attribute], node, parameter].concat()

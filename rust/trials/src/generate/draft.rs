@@ -3,6 +3,7 @@
 use oracle::expr::Attribute;
 use oracle::values::{Base, Value};
 
+use super::collisions::Colliding;
 use super::rng::Rng;
 use crate::write::{attribute, end, figure, node, rule};
 
@@ -14,6 +15,8 @@ pub struct Draft {
     pub figures: Vec<(u16, u8, Value)>,
     /// Kind, attribute, expression.
     pub rules: Vec<(u8, u8, Vec<u8>)>,
+    /// What its questions and stores can name, where the sheet is made for it.
+    pub colliding: Option<Colliding>,
 }
 
 impl Draft {

@@ -12,6 +12,11 @@ use crate::write::{if_else, of};
 
 /// A question, refused once in six or so.
 pub fn question(rng: &mut Rng, draft: &Draft) -> Vec<u8> {
+    if let Some(colliding) = &draft.colliding {
+        if rng.once_in(2) {
+            return colliding.question(rng);
+        }
+    }
     let attributes = draft.attributes.len().min(MOST_ATTRIBUTES);
     let pairs = attributes > 0 && !draft.nodes.is_empty();
     let mut writer = Writer {

@@ -4,6 +4,7 @@ use oracle::expr::LONGEST;
 use oracle::sheet::{LONGEST_SHEET, MOST_ATTRIBUTES, MOST_NODES};
 use oracle::values::{Base, Type, Value};
 
+use super::collisions;
 use super::draft::{base_value, int, Draft};
 use super::rng::Rng;
 use super::writer::{apply, literal, number, unit_of_length, wrapped, Writer};
@@ -12,12 +13,13 @@ use crate::write::{if_else, of};
 /// A sheet of some family. Nearly all are accepted.
 pub fn draft(rng: &mut Rng) -> Draft {
     match rng.below(40) {
-        0..=13 => random_sheet(rng, false),
-        14..=20 => random_sheet(rng, true),
-        21..=25 => chain(rng),
-        26..=28 => countdown(rng),
-        29..=31 => circle(rng),
-        32..=35 => hostile(rng),
+        0..=11 => random_sheet(rng, false),
+        12..=18 => random_sheet(rng, true),
+        19..=23 => chain(rng),
+        24..=26 => countdown(rng),
+        27..=29 => circle(rng),
+        30..=33 => hostile(rng),
+        34 | 35 => collisions::draft(rng),
         36 | 37 => tree(rng),
         38 => large(rng),
         _ => Draft::default(),
@@ -338,6 +340,7 @@ mod tests {
                 countdown(rng),
                 circle(rng),
                 hostile(rng),
+                collisions::draft(rng),
                 tree(rng),
             ] {
                 let read = Sheet::read(&draft.bytes());

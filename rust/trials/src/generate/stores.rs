@@ -16,6 +16,15 @@ pub fn lent(rng: &mut Rng, number: u64, draft: &Draft, sheet: &Sheet) -> (Vec<u8
     if rng.once_in(2) {
         store.fill_with(|| rng.byte());
     }
+    if let Some(colliding) = &draft.colliding {
+        if rng.once_in(2) {
+            let mut kept = colliding.fill(rng, &mut store);
+            if rng.once_in(4) {
+                kept = corrupt(rng, &mut store, kept);
+            }
+            return (store, kept);
+        }
+    }
     let kept = match rng.below(24) {
         0..=14 => 0,
         15 | 16 => used(rng, draft, sheet, &mut store),

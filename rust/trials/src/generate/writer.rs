@@ -1,7 +1,7 @@
 //! Expressions of a wanted type or shape.
 
 use oracle::expr::LONGEST;
-use oracle::values::{Base, Type, Value};
+use oracle::values::{Base, Function, Type, Value};
 
 use super::draft::{base_value, Draft};
 use super::rng::Rng;
@@ -9,15 +9,14 @@ use crate::write::if_else;
 
 /// The function types that some value has.
 pub fn function_types() -> [Type; 7] {
-    use Base::{Bool, Int, Node};
     [
-        Type::function(&[Int, Int], Bool),
-        Type::function(&[Node, Node], Bool),
-        Type::function(&[Int, Int], Int),
-        Type::function(&[Bool], Bool),
-        Type::function(&[Int], Bool),
-        Type::function(&[Node], Bool),
-        Type::function(&[Int], Int),
+        Function::Le.type_of(),
+        Function::EqualNode.type_of(),
+        Function::Add.type_of(),
+        Function::Not.type_of(),
+        Type::INT_TO_BOOL,
+        Type::NODE_TO_BOOL,
+        Type::INT_TO_INT,
     ]
 }
 
@@ -75,12 +74,12 @@ impl Writer<'_> {
 
     /// The composite forms of a type: the head, and the types of the parts.
     fn forms(&self, typ: &Type) -> Vec<(Vec<u8>, Vec<Type>)> {
-        let condition = Type::Base(Base::Bool);
-        let mut forms = vec![(vec![0x20], vec![condition, typ.clone(), typ.clone()])];
+        let condition = Type::BOOL;
+        let mut forms = vec![(vec![0x20], vec![condition, *typ, *typ])];
         for function in function_types() {
-            if let Type::Function(from, to) = &function {
-                if **to == *typ {
-                    forms.push((vec![0x21], vec![function.clone(), Type::Base(*from)]));
+            if let Type::Function(from, to) = function {
+                if to == typ {
+                    forms.push((vec![0x21], vec![function, Type::Base(from)]));
                 }
             }
         }
@@ -100,7 +99,7 @@ impl Writer<'_> {
             Type::Base(base) => literal(base_value(self.rng, *base, self.draft.nodes.len())),
             Type::Function(Base::Bool, _) => vec![0x14, 3],
             Type::Function(from, to) => match **to {
-                Type::Function(_, ref result) => vec![0x14, self.code(*from, result)],
+                Type::Function(_, result) => vec![0x14, self.code(*from, result)],
                 Type::Base(_) => {
                     let mut written = vec![0x21, 0x14, self.code(*from, to)];
                     written.extend(self.leaf(&Type::Base(*from)));
@@ -204,7 +203,7 @@ mod tests {
         for round in 0..4_000 {
             let typ = match round % 11 {
                 base @ 0..=3 => Type::Base(Base::ALL[base]),
-                function => function_types()[function - 4].clone(),
+                function => function_types()[function - 4],
             };
             let parameter = (round % 2 == 0).then(|| rng.pick(&Base::ALL));
             let room = rng.between(8, LONGEST);
