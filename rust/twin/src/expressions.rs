@@ -73,20 +73,30 @@ pub struct Scope<'a> {
 }
 
 impl Scope<'_> {
-    /// The type of the expression that the bytes write from the first to the last of them.
-    pub fn read_whole(&self, bytes: &[u8]) -> Option<Type> {
+    /// The type of the expression that the bytes write from the first to the last of them. The width of each expression in it is
+    /// noted, less one, at the place of its first byte; there is such a place for each byte of an expression that is not too long.
+    pub fn read_whole(&self, bytes: &[u8], widths: &mut [u8]) -> Option<Type> {
         if bytes.len() > LONGEST {
             return None;
         }
-        match self.read(bytes)? {
+        match self.read(bytes, &mut widths[..bytes.len()])? {
             (typ, []) => Some(typ),
             _ => None,
         }
     }
 
-    /// The type of the expression at the front of the bytes, and the bytes after it. An ill-typed expression is read on,
-    /// since a fault of form goes before a fault of type.
-    fn read<'b>(&self, bytes: &'b [u8]) -> Option<(Type, &'b [u8])> {
+    /// The type of the expression at the front of the bytes, and the bytes after it, with the widths noted. The bytes and the
+    /// widths' places end together.
+    fn read<'b>(&self, bytes: &'b [u8], widths: &mut [u8]) -> Option<(Type, &'b [u8])> {
+        let (typ, rest) = self.read_by_head(bytes, widths)?;
+        widths[widths.len() - bytes.len()] = (bytes.len() - rest.len() - 1) as u8;
+        Some((typ, rest))
+    }
+
+    /// As `read`, but for the width of the whole. An ill-typed expression is read on, since a fault of form goes before a fault of
+    /// type.
+    #[inline(always)]
+    fn read_by_head<'b>(&self, bytes: &'b [u8], widths: &mut [u8]) -> Option<(Type, &'b [u8])> {
         let (head, rest) = bytes.split_first()?;
         match head {
             0x10 => Some((Type::base(Base::Unit), rest)),
@@ -105,14 +115,14 @@ impl Scope<'_> {
                 Some((Type::of_function(*operand)?, rest))
             }
             0x20 => {
-                let (condition, rest) = self.read(rest)?;
-                let (yes, rest) = self.read(rest)?;
-                let (no, rest) = self.read(rest)?;
+                let (condition, rest) = self.read(rest, widths)?;
+                let (yes, rest) = self.read(rest, widths)?;
+                let (no, rest) = self.read(rest, widths)?;
                 Some((condition.chooses(yes, no), rest))
             }
             0x21 => {
-                let (function, rest) = self.read(rest)?;
-                let (argument, rest) = self.read(rest)?;
+                let (function, rest) = self.read(rest, widths)?;
+                let (argument, rest) = self.read(rest, widths)?;
                 Some((function.applied(argument), rest))
             }
             0x22 => {
@@ -120,8 +130,8 @@ impl Scope<'_> {
                 if usize::from(*attribute) >= self.attributes {
                     return None;
                 }
-                let (node, rest) = self.read(rest)?;
-                let (parameter, rest) = self.read(rest)?;
+                let (node, rest) = self.read(rest, widths)?;
+                let (parameter, rest) = self.read(rest, widths)?;
                 Some((self.attribute(*attribute, node, parameter), rest))
             }
             0x30 => self.parameter.map(|_| (Type::NODE, rest)),
@@ -139,24 +149,4 @@ impl Scope<'_> {
             Type::NONE
         }
     }
-}
-
-/// How many bytes the expression at an offset takes, on bytes of which it is known that there is one.
-pub fn width(bytes: &[u8], start: usize) -> usize {
-    let mut at = start;
-    let mut left = 1;
-    while left > 0 {
-        let (taken, inner) = match bytes[at] {
-            0x11 | 0x14 => (2, 0),
-            0x12 => (5, 0),
-            0x13 => (3, 0),
-            0x20 => (1, 3),
-            0x21 => (1, 2),
-            0x22 => (2, 2),
-            _ => (1, 0),
-        };
-        at += taken;
-        left = left - 1 + inner;
-    }
-    at - start
 }

@@ -1,6 +1,6 @@
 //! The engine's algorithm in safe Rust, for the benchmarks to measure the engine against: the sheet's check with its index
-//! in one pass, the store's check with its buckets, the question's check, and the frame machine. Like the engine it works
-//! in lent memory and on the stack alone, and so needs no allocator.
+//! and the widths of its expressions in one pass, the store's check with its index, the question's check, and the frame
+//! machine. Like the engine it works in lent memory and on the stack alone, and so needs no allocator.
 //!
 //! "Document 01" is the paper "Settings sheets evaluated by Saiga".
 #![forbid(unsafe_code)]
@@ -34,14 +34,14 @@ pub struct Scratch {
 impl Default for Scratch {
     fn default() -> Scratch {
         Scratch {
-            index: [0; sheets::INDEX_SIZE],
+            index: Index::EMPTY,
             links: [0; stores::LINKS_SIZE],
             stack: Stack::default(),
         }
     }
 }
 
-/// A question put to a sheet and a lent store: the answer and, in the call's store, the bytes lent back. It takes some 215 KB of
+/// A question put to a sheet and a lent store: the answer and, in the call's store, the bytes lent back. It takes some 220 KB of
 /// stack.
 pub fn ask(call: Call) -> Answer {
     ask_in(call, &mut Scratch::default())
@@ -70,7 +70,7 @@ pub fn ask_checked(
     budget: u64,
     stack: &mut Stack,
 ) -> Answer {
-    match check_question(sheet, question, budget) {
+    match check_question(sheet, question, budget, &mut stack.widths) {
         Ok(()) => machine::run(sheet, store, question, budget, stack),
         Err(refusal) => Answer::refusal(refusal, store.kept as u64),
     }
@@ -80,17 +80,23 @@ pub fn ask_checked(
 pub fn check(call: Call, index: &mut Index, links: &mut Links) -> Result<(), Refusal> {
     let sheet = Sheet::check(call.sheet, index)?;
     Store::check(&sheet, call.store, call.kept, links)?;
-    check_question(&sheet, call.question, call.budget)
+    let widths = &mut [0; expressions::LONGEST];
+    check_question(&sheet, call.question, call.budget, widths)
 }
 
-/// Stops 11 to 13.
-fn check_question(sheet: &Sheet, question: &[u8], budget: u64) -> Result<(), Refusal> {
+/// Stops 11 to 13, with the widths of the question's expressions noted.
+fn check_question(
+    sheet: &Sheet,
+    question: &[u8],
+    budget: u64,
+    widths: &mut [u8],
+) -> Result<(), Refusal> {
     if budget > MOST_STEPS {
         return Err(Stop::Budget.into());
     }
     let typ = sheet
         .scope(None)
-        .read_whole(question)
+        .read_whole(question, widths)
         .ok_or(Stop::QuestionForm)?;
     if !typ.is_base() {
         return Err(Stop::QuestionType.into());

@@ -5,9 +5,9 @@ use calls::{Refusal, Stop};
 
 use crate::answers::Answer;
 use crate::bytes::{four, two};
-use crate::expressions::{width, LONGEST};
+use crate::expressions::LONGEST;
 use crate::sheets::{Definition, Sheet};
-use crate::stores::{Key, Store};
+use crate::stores::{Found, Key, Store};
 use crate::values::{Function, Value, NULL};
 
 /// How many forms can be open.
@@ -47,6 +47,8 @@ pub struct Form {
 pub struct Stack {
     frames: [Frame; MOST_FRAMES],
     forms: [Form; MOST_OPEN],
+    /// The width of each expression of the question less one, at the offset of its first byte, from its check.
+    pub widths: [u8; LONGEST],
 }
 
 impl Default for Stack {
@@ -60,6 +62,7 @@ impl Default for Stack {
         Stack {
             frames: [Frame::Condition; MOST_FRAMES],
             forms: [form; MOST_OPEN],
+            widths: [0; LONGEST],
         }
     }
 }
@@ -107,10 +110,15 @@ fn evaluate(
     store: &mut Store,
     question: &[u8],
     budget: &mut Budget,
-    Stack { frames, forms }: &mut Stack,
+    Stack {
+        frames,
+        forms,
+        widths: noted,
+    }: &mut Stack,
 ) -> Result<Value, Stop> {
     // The running piece lies in the question while no form is open, and in the sheet inside a form.
     let mut piece = question;
+    let mut widths = &noted[..];
     let mut at = 0;
     let mut height = 0;
     let mut open = 0;
@@ -175,13 +183,13 @@ fn evaluate(
                     if value == Value::Bool(true) {
                         frames[top] = Frame::Branch;
                     } else {
-                        at += width(piece, at);
+                        at += usize::from(widths[at]) + 1;
                         height = top;
                     }
                     break;
                 }
                 Frame::Branch => {
-                    at += width(piece, at);
+                    at += usize::from(widths[at]) + 1;
                     height = top;
                 }
                 Frame::Function => {
@@ -215,10 +223,10 @@ fn evaluate(
                         parameter: value.word(),
                     };
                     let word = match store.find(key) {
-                        Some(kept) => kept,
-                        None => match sheet.definition(node, attribute) {
+                        Found::Value(kept) => kept,
+                        Found::Nothing(free) => match sheet.definition(node, attribute) {
                             Definition::Figure(figure) => {
-                                store.append(key, figure);
+                                store.append(free, key, figure);
                                 figure
                             }
                             Definition::Rule(start) => {
@@ -231,6 +239,7 @@ fn evaluate(
                                 open += 1;
                                 frames[top] = Frame::Form;
                                 piece = sheet.bytes;
+                                widths = &sheet.index.widths;
                                 at = start;
                                 break;
                             }
@@ -250,6 +259,7 @@ fn evaluate(
                     store.write(key, value.word());
                     if open == 0 {
                         piece = question;
+                        widths = &noted[..];
                     }
                     at = form.back;
                     height = top;

@@ -10,13 +10,25 @@ const LONGEST_SHEET: usize = 65_536;
 const MOST_ATTRIBUTES: usize = 32;
 const MOST_NODES: usize = 1_024;
 const KINDS: usize = 16;
-/// Where the rules' part of the index starts.
+/// Where the rules' part of the places starts.
 const RULES: usize = MOST_NODES * MOST_ATTRIBUTES;
-pub const INDEX_SIZE: usize = RULES + KINDS * MOST_ATTRIBUTES;
+const PLACES: usize = RULES + KINDS * MOST_ATTRIBUTES;
 
-/// Where each figure stands, at node × 32 + attribute, and each rule, at 32,768 + kind × 32 + attribute: the offset of its
-/// command and one, or 0.
-pub type Index = [u32; INDEX_SIZE];
+/// What the check of a sheet notes.
+pub struct Index {
+    /// Where each figure stands, at node × 32 + attribute, and each rule, at 32,768 + kind × 32 + attribute: the offset of its
+    /// command and one, or 0.
+    places: [u16; PLACES],
+    /// The width of each expression less one, at the offset of its first byte.
+    pub widths: [u8; LONGEST_SHEET],
+}
+
+impl Index {
+    pub(crate) const EMPTY: Index = Index {
+        places: [0; PLACES],
+        widths: [0; LONGEST_SHEET],
+    };
+}
 
 /// A checked sheet.
 #[derive(Clone, Copy)]
@@ -59,7 +71,7 @@ impl<'a> Sheet<'a> {
         if bytes.len() > LONGEST_SHEET {
             return Err(Stop::SheetLength.into());
         }
-        index[RULES..].fill(0);
+        index.places[RULES..].fill(0);
         let mut progress = Progress {
             bytes,
             at: 0,
@@ -88,8 +100,8 @@ impl<'a> Sheet<'a> {
     fn first_undefined(&self) -> Option<usize> {
         (0..self.nodes).find_map(|node| {
             let row = node * MOST_ATTRIBUTES;
-            let figures = &self.index[row..row + self.attributes];
-            let rules = &self.index[self.rules_of(node)..][..self.attributes];
+            let figures = &self.index.places[row..row + self.attributes];
+            let rules = &self.index.places[self.rules_of(node)..][..self.attributes];
             let undefined = figures
                 .iter()
                 .zip(rules)
@@ -107,11 +119,11 @@ impl<'a> Sheet<'a> {
     /// The definition in force for a declared pair: the figure if there is one, else the rule.
     pub fn definition(&self, node: u16, attribute: u8) -> Definition {
         let node = usize::from(node);
-        let figure = self.index[node * MOST_ATTRIBUTES + usize::from(attribute)] as usize;
+        let figure = self.index.places[node * MOST_ATTRIBUTES + usize::from(attribute)] as usize;
         if figure != 0 {
             return Definition::Figure(four(self.bytes, figure + 3));
         }
-        let rule = self.index[self.rules_of(node) + usize::from(attribute)] as usize;
+        let rule = self.index.places[self.rules_of(node) + usize::from(attribute)] as usize;
         Definition::Rule(rule + 4)
     }
 
@@ -190,7 +202,7 @@ impl Progress<'_> {
         if usize::from(command[1]) >= KINDS {
             return Err(Stop::Operand);
         }
-        index[self.nodes * MOST_ATTRIBUTES..][..MOST_ATTRIBUTES].fill(0);
+        index.places[self.nodes * MOST_ATTRIBUTES..][..MOST_ATTRIBUTES].fill(0);
         self.nodes += 1;
         Ok(0)
     }
@@ -204,7 +216,7 @@ impl Progress<'_> {
         if !Base::of(self.bytes[3 * attribute + 1]).has(four(command, 4), self.nodes) {
             return Err(Stop::Operand);
         }
-        self.define(&mut index[node * MOST_ATTRIBUTES + attribute])?;
+        self.define(&mut index.places[node * MOST_ATTRIBUTES + attribute])?;
         Ok(0)
     }
 
@@ -219,7 +231,7 @@ impl Progress<'_> {
         if kind >= KINDS || attribute >= self.attributes {
             return Err(Stop::Operand);
         }
-        let place = &mut index[RULES + kind * MOST_ATTRIBUTES + attribute];
+        let place = &mut index.places[RULES + kind * MOST_ATTRIBUTES + attribute];
         if *place != 0 {
             return Err(Stop::SecondDefinition);
         }
@@ -230,7 +242,8 @@ impl Progress<'_> {
             nodes: self.nodes,
             parameter: Some(Base::of(parameter)),
         };
-        let typ = scope.read_whole(expression).ok_or(Stop::RuleForm)?;
+        let typ = scope.read_whole(expression, &mut index.widths[start..start + length]);
+        let typ = typ.ok_or(Stop::RuleForm)?;
         if typ != Type::base(Base::of(result)) {
             return Err(Stop::RuleType);
         }
@@ -239,11 +252,11 @@ impl Progress<'_> {
     }
 
     /// The command at the offset reached becomes the definition at a place of the index.
-    fn define(&self, place: &mut u32) -> Result<(), Stop> {
+    fn define(&self, place: &mut u16) -> Result<(), Stop> {
         if *place != 0 {
             return Err(Stop::SecondDefinition);
         }
-        *place = self.at as u32 + 1;
+        *place = self.at as u16 + 1;
         Ok(())
     }
 }

@@ -8,10 +8,15 @@ use crate::sheets::Sheet;
 const ENTRY: usize = 12;
 const MOST_ENTRIES: usize = 1_024;
 const BUCKETS: usize = 1_024;
-pub const LINKS_SIZE: usize = BUCKETS + MOST_ENTRIES;
+/// The base that a key's trail is written in.
+const BASE: usize = 8;
+/// The digits of a trail.
+const DIGITS: usize = 16;
+pub const LINKS_SIZE: usize = BUCKETS + BASE * MOST_ENTRIES;
 
-/// The last entry of each bucket, then for each entry the one before it in its bucket: an entry's number and one, or 0.
-pub type Links = [u32; LINKS_SIZE];
+/// A digital search tree for each bucket: the bucket's first entry, then for each entry the next one by each digit. An entry is its number
+/// and one, 0 is none.
+pub type Links = [u16; LINKS_SIZE];
 
 /// A checked store.
 pub struct Store<'a> {
@@ -38,10 +43,24 @@ impl Key {
     }
 
     fn bucket(self) -> usize {
-        let pair = u64::from(self.node) * 32 + u64::from(self.attribute);
-        let hash = pair * 37_190_065 + u64::from(self.parameter) * 40_503;
-        (hash / 65_536) as usize % BUCKETS
+        let turn =
+            u64::from(self.attribute) * 2_246_822_519 + u64::from(self.parameter) * 2_654_435_769;
+        (u64::from(self.node) + turn / 4_194_304) as usize % BUCKETS
     }
+
+    /// The number whose digits lead through the bucket, the lowest first: it tells apart the keys that the bucket does not.
+    fn trail(self) -> u64 {
+        let above = u64::from(self.attribute) + 256 * u64::from(self.node / 1_024);
+        u64::from(self.parameter) + u64::from(self.attribute) + 8_589_934_592 * above
+    }
+}
+
+/// What a search finds.
+pub enum Found {
+    /// The value kept.
+    Value(u32),
+    /// Nothing, and the free link where the key's entry would hang.
+    Nothing(usize),
 }
 
 impl<'a> Store<'a> {
@@ -65,51 +84,80 @@ impl<'a> Store<'a> {
         for number in 0..kept as usize {
             let entry = &store.entries[number];
             let key = Key::of(entry);
-            if !is_entry(sheet, entry, key) || store.find(key).is_some() {
-                return Err(Stop::StoreEntry.at(number as u64));
+            let faulty = Stop::StoreEntry.at(number as u64);
+            if !is_entry(sheet, entry, key) {
+                return Err(faulty);
             }
-            store.link(key);
+            match store.find(key) {
+                Found::Nothing(free) => store.link(free),
+                Found::Value(_) => return Err(faulty),
+            }
         }
         Ok(store)
     }
 
-    /// The value of an occurrence, where it is kept.
-    pub fn find(&self, key: Key) -> Option<u32> {
-        let mut place = self.links[key.bucket()] as usize;
-        while place > 0 {
+    /// The value of an occurrence, where it is kept. Most keys are the first of their bucket, or their bucket is empty.
+    #[inline(always)]
+    pub fn find(&self, key: Key) -> Found {
+        let bucket = key.bucket();
+        match self.links[bucket] as usize {
+            0 => Found::Nothing(bucket),
+            first => {
+                let entry = &self.entries[first - 1];
+                if Key::of(entry) == key {
+                    return Found::Value(four(entry, 8));
+                }
+                self.find_below(first, key)
+            }
+        }
+    }
+
+    /// As `find`, for a key that is not that of its bucket's first entry.
+    #[inline(always)]
+    fn find_below(&self, first: usize, key: Key) -> Found {
+        let mut place = first;
+        let mut rest = key.trail();
+        for _ in 0..DIGITS {
+            let link = BUCKETS + BASE * (place - 1) + rest as usize % BASE;
+            rest /= BASE as u64;
+            place = self.links[link] as usize;
+            if place == 0 {
+                return Found::Nothing(link);
+            }
             let entry = &self.entries[place - 1];
             if Key::of(entry) == key {
-                return Some(four(entry, 8));
+                return Found::Value(four(entry, 8));
             }
-            place = self.links[BUCKETS + place - 1] as usize;
         }
-        None
+        unreachable!("two entries with one key")
     }
 
-    /// The entry after the kept ones, whose bytes stand in the store already, is kept too.
-    fn link(&mut self, key: Key) {
-        let bucket = key.bucket();
-        self.links[BUCKETS + self.kept] = self.links[bucket];
+    /// The entry after the kept ones, whose bytes stand in the store already, is kept too. `free` is what the search for its key gave.
+    fn link(&mut self, free: usize) {
+        let below = BUCKETS + BASE * self.kept;
+        self.links[below..below + BASE].fill(0);
         self.kept += 1;
-        self.links[bucket] = self.kept as u32;
+        self.links[free] = self.kept as u16;
     }
 
-    /// Appends an occurrence that is not kept, if the store is not full.
-    pub fn append(&mut self, key: Key, value: u32) {
+    /// Appends an occurrence that is not kept, if the store is not full. `free` is what the search for it gave.
+    pub fn append(&mut self, free: usize, key: Key, value: u32) {
         if let Some(entry) = self.entries.get_mut(self.kept) {
             entry[..2].copy_from_slice(&key.node.to_le_bytes());
             entry[2] = key.attribute;
             entry[3] = 0;
             entry[4..8].copy_from_slice(&key.parameter.to_le_bytes());
             entry[8..].copy_from_slice(&value.to_le_bytes());
-            self.link(key);
+            self.link(free);
         }
     }
 
     /// CacheWrite.
     pub fn write(&mut self, key: Key, value: u32) {
-        if self.kept < self.entries.len() && self.find(key).is_none() {
-            self.append(key, value);
+        if self.kept < self.entries.len() {
+            if let Found::Nothing(free) = self.find(key) {
+                self.append(free, key, value);
+            }
         }
     }
 }
