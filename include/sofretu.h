@@ -22,15 +22,20 @@
 extern "C" {
 #endif
 
-/* Scratch that a caller lends: of a checked sheet, of a checked store, and of a run. What they hold is the library's affair and may change with it: a
+/* Scratch that a caller lends: of a checked sheet, of what is noted of it, of a checked store, and of a run. What they hold is the library's affair and may change with it: a
  * caller makes them, lends them, and looks at nothing inside. */
 #define SOFRETU_SHEET_WORDS 33282
+#define SOFRETU_SHEET_NOTES 65536
 #define SOFRETU_STORE_WORDS 9216
 #define SOFRETU_RUN_WORDS 8576
 
 typedef struct {
-    uint32_t words[SOFRETU_SHEET_WORDS];
+    uint16_t words[SOFRETU_SHEET_WORDS];
 } sofretu_checked_sheet;
+
+typedef struct {
+    uint8_t notes[SOFRETU_SHEET_NOTES];
+} sofretu_noted_sheet;
 
 typedef struct {
     uint16_t words[SOFRETU_STORE_WORDS];
@@ -92,20 +97,22 @@ void sofretu_ask(const uint8_t *sheet, uint64_t sheet_len,
                  uint64_t budget,
                  int64_t answer[SOFRETU_FIELDS]);
 
-/* The same with lent scratch. Nothing is asked of what the scratch holds. Afterwards `checked_sheet` is that of an accepted sheet, as
- * sofretu_check_sheet leaves it, and free of a refused one; `checked_store` is that of the store that is left, if sheet and store were accepted, and
+/* The same with lent scratch. Nothing is asked of what the scratch holds. Afterwards `checked_sheet` and `noted_sheet` are those of an accepted sheet, as
+ * sofretu_check_sheet leaves them, and free of a refused one; `checked_store` is that of the store that is left, if sheet and store were accepted, and
  * else free; `run` is as lent under stops 1 to 13, and else free. */
 void sofretu_ask_in(const uint8_t *sheet, uint64_t sheet_len,
                     const uint8_t *question, uint64_t question_len,
                     uint8_t *store, uint64_t store_len, uint64_t kept,
                     uint64_t budget,
-                    sofretu_checked_sheet *checked_sheet, sofretu_checked_store *checked_store, sofretu_run *run,
+                    sofretu_checked_sheet *checked_sheet, sofretu_noted_sheet *noted_sheet,
+                    sofretu_checked_store *checked_store, sofretu_run *run,
                     int64_t answer[SOFRETU_FIELDS]);
 
 /* The check of a sheet, once for many questions: 0, or the stop's number, 1 to 8. `found` is place, attributes, nodes: the place is 0 of
- * an accepted sheet, the other two are 0 of a refused one. Fills `checked_sheet`, which is free afterwards of a refused sheet. */
+ * an accepted sheet, the other two are 0 of a refused one. Fills `checked_sheet` and `noted_sheet`, which are free afterwards of a refused
+ * sheet. */
 uint32_t sofretu_check_sheet(const uint8_t *sheet, uint64_t sheet_len,
-                             sofretu_checked_sheet *checked_sheet, uint64_t found[3]);
+                             sofretu_checked_sheet *checked_sheet, sofretu_noted_sheet *noted_sheet, uint64_t found[3]);
 
 /* The check of a store, for a sheet that was accepted: 0, 9 or 10, with its place. `checked_sheet` is as sofretu_check_sheet left it when it accepted
  * these sheet bytes. Fills `checked_store`, which is free afterwards of a refused store. Of any other `checked_sheet` the call answers as for a sheet
@@ -117,12 +124,12 @@ uint32_t sofretu_check_store(const uint8_t *sheet, uint64_t sheet_len,
                              sofretu_checked_store *checked_store, uint64_t *place);
 
 /* A question to a checked sheet and a checked store: stops 11 to 16 are left. The number kept for the next question is the answer's.
- * REQUIRES: `checked_sheet` as sofretu_check_sheet left it when it accepted these sheet bytes; `checked_store` as sofretu_check_store, when it
- * accepted these store bytes with this `kept`, or an earlier call of this function left it.
+ * REQUIRES: `checked_sheet` and `noted_sheet` as sofretu_check_sheet left them when it accepted these sheet bytes; `checked_store` as
+ * sofretu_check_store, when it accepted these store bytes with this `kept`, or an earlier call of this function left it.
  * With anything else the call has no meaning, and may read or write anywhere. Nothing is asked of `run`, which is as lent under stops 11 to 13 and
  * else free. */
 void sofretu_ask_checked(const uint8_t *sheet, uint64_t sheet_len,
-                         const sofretu_checked_sheet *checked_sheet,
+                         const sofretu_checked_sheet *checked_sheet, const sofretu_noted_sheet *noted_sheet,
                          const uint8_t *question, uint64_t question_len,
                          uint8_t *store, uint64_t store_len, uint64_t kept,
                          uint64_t budget,

@@ -40,13 +40,14 @@ static const struct {
 
 static uint8_t store[SOFRETU_MOST_ENTRIES * SOFRETU_ENTRY];
 static sofretu_checked_sheet checked_sheet;
+static sofretu_noted_sheet noted_sheet;
 static sofretu_checked_store checked_store;
 static sofretu_run run;
 
 int main(void) {
     /* The sheet and the store are checked once, then the questions are put one after the other. */
     uint64_t found[3];
-    uint32_t stop = sofretu_check_sheet(sheet, sizeof sheet, &checked_sheet, found);
+    uint32_t stop = sofretu_check_sheet(sheet, sizeof sheet, &checked_sheet, &noted_sheet, found);
     if (stop != 0) {
         fprintf(stderr, "sheet: stop %" PRIu32 " at %" PRIu64 "\n", stop, found[0]);
         return 1;
@@ -60,7 +61,7 @@ int main(void) {
     }
     for (size_t i = 0; i < sizeof questions / sizeof questions[0]; i++) {
         int64_t answer[SOFRETU_FIELDS];
-        sofretu_ask_checked(sheet, sizeof sheet, &checked_sheet, questions[i].bytes, questions[i].len, store, sizeof store,
+        sofretu_ask_checked(sheet, sizeof sheet, &checked_sheet, &noted_sheet, questions[i].bytes, questions[i].len, store, sizeof store,
                             kept, SOFRETU_MOST_STEPS, &checked_store, &run, answer);
         for (int field = 0; field < SOFRETU_FIELDS; field++) {
             printf("%" PRId64 "%c", answer[field], field + 1 < SOFRETU_FIELDS ? ' ' : '\n');

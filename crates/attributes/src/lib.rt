@@ -103,7 +103,7 @@ pub fn close_form(store: &mut [u8], links: &mut [u16], memory: &[u64], m: Regist
 }
 
 // AttrApp by a rule: its piece runs inside a form, and the form's words say where the piece around it goes on.
-fn open_rule(sheet: &[u8], index: &[u32], memory: &mut [u64], m: Registers, key: Key) -> Registers
+fn open_rule(sheet: &[u8], index: &[u16], memory: &mut [u64], m: Registers, key: Key) -> Registers
     requires { ⌜ RuleReady (now sheet) (now index) (now memory) m (key .node) (key .attribute) ⌝ }
     ensures { λ r. ⌜ ((store : List ℕ) → goes r (memoryOf store (now (memory .exit)))
         ≡ openRule (now (sheet .entry)) (now (index .entry)) (memoryOf store (now (memory .entry))) m (key .node) (key .attribute) (key .word)) ⌝ }
@@ -135,7 +135,7 @@ fn open_rule(sheet: &[u8], index: &[u32], memory: &mut [u64], m: Registers, key:
 // AttrApp of an occurrence that is not kept: its figure, which is kept at once in the free cell of the store's index, or its rule.
 fn open_definition(
     sheet: &[u8],
-    index: &[u32],
+    index: &[u16],
     store: &mut [u8],
     links: &mut [u16],
     memory: &mut [u64],
@@ -161,7 +161,7 @@ fn open_definition(
 // AttrApp: a kept value before the definition.
 fn take_attribute(
     sheet: &[u8],
-    index: &[u32],
+    index: &[u16],
     store: &mut [u8],
     links: &mut [u16],
     memory: &mut [u64],
@@ -193,7 +193,7 @@ fn take_attribute(
 // AttrApp is due with the node and the attribute that the frame's word holds: the limits in the order of their numbers, then the step.
 pub fn attribute_due(
     sheet: &[u8],
-    index: &[u32],
+    index: &[u16],
     store: &mut [u8],
     links: &mut [u16],
     memory: &mut [u64],

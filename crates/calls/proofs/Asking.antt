@@ -14,6 +14,7 @@ use Rattle.engine.specs.Decode.{wordsIn, formsIn}
 use Rattle.engine.specs.Ready.{memoryOf}
 use Rattle.engine.specs.Loop.{Invariant, started, Final}
 use Rattle.engine.proofs.RunMemory.{words-length, forms-length}
+use Rattle.engine.proofs.Tracking.{tracks-start}
 use Rattle.engine.proofs.Loop.{question-short, invariant-start, final-outcome}
 use Rattle.runs.specs.declared.RunEnd.{RunEnd}
 use Rattle.runs.specs.declared.RunEnd.the-variants as End
@@ -23,8 +24,8 @@ use Rattle.calls.specs.declared.Answer.the-variants.{Value, Refusal}
 use Rattle.calls.specs.Answers.{answerOf}
 use Rattle.calls.specs.Askable.{Askable}
 
-module _ {sheet index question store links memory : List ℕ} {kept budget : ℕ}
-    (a : Askable sheet index question store links memory kept budget) where
+module _ {sheet index notes question store links memory : List ℕ} {kept budget : ℕ}
+    (a : Askable sheet index notes question store links memory kept budget) where
   found : Passed sheet (lent store kept) (asking question budget) (a .call)
   found = passed sheet (lent store kept) (asking question budget) (a .accepts)
 
@@ -41,13 +42,14 @@ module _ {sheet index question store links memory : List ℕ} {kept budget : ℕ
     begins-at : Invariant sheet index question budget store kept whole (memoryOf store memory) first
     begins-at = rw is begins
 
-    pub runs : Running sheet index question budget store links memory first
+    pub runs : Running sheet index notes question budget store links memory first
     runs =
         record {
           lent = store;
           kept = kept;
           whole = whole;
           invariant = begins-at;
+          tracks = tracks-start sheet index notes (memoryOf store memory) first (ap (λ m. m .forms) is) (a .noted .rules) (a .noted .size);
           permitted = found .permitted;
           linked = rw is (a .linked);
           short = question-short (a .call .sheet) question (a .call .question) (found .question-is);
@@ -56,7 +58,7 @@ module _ {sheet index question store links memory : List ℕ} {kept budget : ℕ
     -- what the run's contract says of this call
     module _ {store′ links′ : List ℕ} (memory′ : List ℕ) (r : RunEnd)
         (ran : (lent : List ℕ) (kept : ℕ) (whole : Ended) → Invariant sheet index question budget lent kept whole (memoryOf store memory) first
-        → RunsTo sheet index question budget budget lent kept whole (first .steps) (memoryOf store′ memory′) r)
+        → RunsTo sheet index notes question budget budget lent kept whole (first .steps) (memoryOf store′ memory′) r)
         (linked : Linked store′ (keptBy r) links′) where
       -- the answer and the bytes of the store, and the store's index
       abbrev Brings : Answer → Type 0
@@ -84,4 +86,4 @@ module _ {sheet index question store links memory : List ℕ} {kept budget : ℕ
 
       -- A run whose limit is its budget does not pause: it is spent there, or it ends.
       pub paused : {m : Registers} {A : Type 0} → r ≡ End.Pauses m → A
-      paused end = let (_, reached, left, _) = rw end at (ran store kept whole begins-at) in absurd (omega arith)
+      paused end = let (_, _, reached, left, _) = rw end at (ran store kept whole begins-at) in absurd (omega arith)

@@ -7,7 +7,7 @@ use native.Mathlib.Omega.{arith}
 use borrow.Author.Tests.{le-leb, lt-leb}
 use lib.Dec.{leb}
 use lib.ListN.{length, getD}
-use Rattle.saiga.specs.Limits.{budgetLimit}
+use Rattle.saiga.specs.Limits.{sheetLimit, budgetLimit}
 use Rattle.saiga.specs.Expressions.{Expr}
 use Rattle.saiga.specs.Sheet.{Sheet, nodeCount, attributeCount, Checked, refused_at-place_, accepted, checkSheet}
 use Rattle.saiga.specs.Caching.{Entry}
@@ -26,7 +26,8 @@ use Rattle.stores.specs.declared.StoreCheck.the-variants as for-store
 use Rattle.stores.specs.Keys.{linksSize, storeCheckOf, StoreChecked}
 use Rattle.calls.specs.declared.checks.Verdict.{Verdict}
 use Rattle.calls.specs.declared.checks.Verdict.the-variants.{Refused, Accepted}
-use Rattle.calls.specs.Prepared.{PreparedSheet, PreparedStore}
+use Rattle.sheets.specs.Notes.{ChecksNotes}
+use Rattle.calls.specs.Prepared.{PreparedSheet, NotedSheet, PreparedStore}
 use Rattle.calls.specs.Verdict.{verdictOf, SheetOf, fromBudget, fromStore, FromStore, CallChecked}
 
 -- one constructor is no other
@@ -225,9 +226,16 @@ module _ {sheet index : List ℕ} {r : SheetCheck} (checked : Checks sheet r ind
       go (refused n at-place p) e = let same : for-sheet.Refused n p ≡ for-sheet.Refused number place = sym e ∙ is in cc
       go (accepted s) e = other cc
 
-  module _ (m : Lent) (c : Call) {links : List ℕ} where
+  -- what is noted of an accepted sheet
+  pub sheet-noted : {notes : List ℕ} → length notes ≡ sheetLimit → ChecksNotes sheet r index notes → (s : Sheet) → checkSheet sheet ≡ accepted s → NotedSheet sheet index notes
+  unfolding checkOf
+  sheet-noted {notes} size noted s e =
+      let is : r ≡ checkOf (accepted s) = checked .checked ∙ ap checkOf e in
+      record { rules = rw is at noted; size = omega (arith, checked .indexes s e .described .short) }
+
+  module _ (m : Lent) (c : Call) {notes links : List ℕ} (notes-size : length notes ≡ sheetLimit) (noted : ChecksNotes sheet r index notes) where
     pub sheet-stops : {number place : ℕ} → r ≡ for-sheet.Refused number place → length links ≡ linksSize
-        → CallChecked sheet m c index links (Refused number place)
+        → CallChecked sheet m c index notes links (Refused number place)
     unfolding verdictOf
     sheet-stops {number} {place} h links-size =
         let is = sheet-refused h in
@@ -236,13 +244,15 @@ module _ {sheet index : List ℕ} {r : SheetCheck} (checked : Checks sheet r ind
           scratch = record {
             index-length = checked .size;
             indexed = checked .indexes;
+            notes-length = notes-size;
+            noted = sheet-noted notes-size noted;
             links-length = links-size;
             linked = λ s e entries f. other cc;
           };
         }
 
     pub sheet-passes : {attributes nodes : ℕ} {v : Verdict} → r ≡ for-sheet.Accepted attributes nodes
-        → FromStore sheet attributes nodes m c links v → CallChecked sheet m c index links v
+        → FromStore sheet attributes nodes m c links v → CallChecked sheet m c index notes links v
     sheet-passes h rest =
         let p = sheet-prepared h in
         record {
@@ -250,6 +260,8 @@ module _ {sheet index : List ℕ} {r : SheetCheck} (checked : Checks sheet r ind
           scratch = record {
             index-length = checked .size;
             indexed = checked .indexes;
+            notes-length = notes-size;
+            noted = sheet-noted notes-size noted;
             links-length = rest .links-length;
             linked = λ s e entries f. rest .linked (p .prepared .of) (sheet-of p) entries (rw (same-sheet p s e) f);
           };

@@ -20,7 +20,7 @@ use Rattle.calls.specs.declared.Answer.{Answer}
 use Rattle.calls.specs.declared.checks.Verdict.{Verdict}
 use Rattle.calls.specs.declared.checks.Verdict.the-variants.{Refused, Accepted}
 use Rattle.calls.specs.Answers.{answerOf}
-use Rattle.calls.specs.Prepared.{PreparedStore}
+use Rattle.calls.specs.Prepared.{NotedSheet, PreparedStore}
 use Rattle.calls.specs.Verdict.{SheetOf, fromBudget, Indexes, CallChecked}
 use Rattle.calls.proofs.CheckLaws.{SheetWith, sheet-of, same-sheet, verdict-refused, verdict-accepted, asked-refused, asked-accepted, from-store, from-sheet}
 use Rattle.calls.specs.Askable.{Askable, RunScratch}
@@ -50,8 +50,8 @@ module _ {checked : Checked AcceptedCall} {memory : List ℕ} where
 
 -- ---- A call of which nothing was checked before
 
-module _ {sheet index question store links : List ℕ} {kept budget : ℕ} {r : Verdict}
-    (checked : CallChecked sheet (lent store kept) (asking question budget) index links r) where
+module _ {sheet index notes question store links : List ℕ} {kept budget : ℕ} {r : Verdict}
+    (checked : CallChecked sheet (lent store kept) (asking question budget) index notes links r) where
   pub checked-refused : {number place : ℕ} → r ≡ Refused number place → checkCall sheet (lent store kept) (asking question budget) ≡ refused number at-place place
   checked-refused is = verdict-refused (checkCall sheet (lent store kept) (asking question budget)) (sym (checked .answer) ∙ is)
 
@@ -59,7 +59,7 @@ module _ {sheet index question store links : List ℕ} {kept budget : ℕ} {r : 
   checked-accepts is = let (c, accepts, _, _) = verdict-accepted (checkCall sheet (lent store kept) (asking question budget)) (sym (checked .answer) ∙ is) in (c, accepts)
 
   pub checked-askable : {attributes nodes : ℕ} {memory : List ℕ} → r ≡ Accepted attributes nodes → length memory ≡ runSize
-      → Askable sheet index question store links memory kept budget
+      → Askable sheet index notes question store links memory kept budget
   checked-askable is memory-length =
       let (c, accepts, _, _) = verdict-accepted (checkCall sheet (lent store kept) (asking question budget)) (sym (checked .answer) ∙ is) in
       let found = passed sheet (lent store kept) (asking question budget) accepts in
@@ -67,16 +67,20 @@ module _ {sheet index question store links : List ℕ} {kept budget : ℕ} {r : 
         call = c;
         accepts = accepts;
         index-of = checked .scratch .indexed (c .sheet) (found .sheet-is);
+        noted = checked .scratch .noted (c .sheet) (found .sheet-is);
         linked = checked .scratch .linked (c .sheet) (found .sheet-is) (c .entries) (found .entries-are);
         memory-length = memory-length;
       }
 
 -- the indexes after a run, whose store is linked
-pub indexes-after : {sheet index store store′ links links′ : List ℕ} {kept kept′ : ℕ} → Indexes sheet store kept index links → Linked store′ kept′ links′ → Indexes sheet store′ kept′ index links′
+pub indexes-after : {sheet index notes store store′ links links′ : List ℕ} {kept kept′ : ℕ} → Indexes sheet store kept index notes links → Linked store′ kept′ links′
+    → Indexes sheet store′ kept′ index notes links′
 indexes-after before linked =
     record {
       index-length = before .index-length;
       indexed = before .indexed;
+      notes-length = before .notes-length;
+      noted = before .noted;
       links-length = linked .size;
       linked = λ s e entries f. linked;
     }
@@ -107,14 +111,15 @@ module _ {sheet index : List ℕ} {attributes nodes : ℕ} (p : SheetWith sheet 
         let (e, asks) = asked-accepted (asking question budget) checked (p .prepared .of) (sheet-of p) is in
         (e, chain ∙ rw asks)
 
-    pub askable : {memory : List ℕ} {code : ℕ} → r ≡ for-question.Accepted code → length memory ≡ runSize
-        → Askable sheet index question store links memory kept budget
-    askable is memory-length =
+    pub askable : {notes memory : List ℕ} {code : ℕ} → NotedSheet sheet index notes → r ≡ for-question.Accepted code → length memory ≡ runSize
+        → Askable sheet index notes question store links memory kept budget
+    askable noted is memory-length =
         let (e, accepts) = question-accepts is in
         record {
           call = record { sheet = p .prepared .of; entries = entries; question = e };
           accepts = accepts;
           index-of = p .prepared .index-of;
+          noted = noted;
           linked = q .linked;
           memory-length = memory-length;
         }

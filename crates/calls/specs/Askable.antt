@@ -9,12 +9,14 @@ use Rattle.saiga.specs.Ask.{lent, asking, AcceptedCall, checkCall}
 use Rattle.sheets.specs.Scan.{Indexed}
 use Rattle.stores.specs.Keys.{Linked}
 use Rattle.engine.specs.Decode.{runSize}
+use Rattle.calls.specs.Prepared.{NotedSheet}
 
--- An accepted call, with its indexes, and memory for its run.
-pub record Askable (sheet index question store links memory : List ℕ) (kept budget : ℕ) : Type 0 where
+-- An accepted call, with its indexes and notes, and memory for its run.
+pub record Askable (sheet index notes question store links memory : List ℕ) (kept budget : ℕ) : Type 0 where
   pub call : AcceptedCall
   pub accepts : checkCall sheet (lent store kept) (asking question budget) ≡ accepted call
   pub index-of : Indexed sheet (call .sheet) index
+  pub noted : NotedSheet sheet index notes
   pub linked : Linked store kept links
   pub memory-length : length memory ≡ runSize
 

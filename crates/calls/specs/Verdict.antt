@@ -1,8 +1,9 @@
--- What the code answers of a call's arguments, and what it leaves in the two indexes (document 01, "Stops by origin").
+-- What the code answers of a call's arguments, and what it leaves in the two indexes and in the notes (document 01, "Stops by origin").
 use mathlib.Core.List.{List}
 use mathlib.Core.Path.{_≡_}
 use Prim.Native.Nat.{ℕ}
 use lib.ListN.{length}
+use Rattle.saiga.specs.Limits.{sheetLimit}
 use Rattle.saiga.specs.Expressions.{Expr}
 use Rattle.saiga.specs.Sheet.{Sheet, nodeCount, attributeCount, Checked, refused_at-place_, accepted, checkSheet}
 use Rattle.saiga.specs.Caching.{Entry}
@@ -11,6 +12,7 @@ use Rattle.saiga.specs.Ask.{Lent, Call, _then-check_, checkBudget, checkQuestio
 use Rattle.values.specs.Layout.{attributesIn}
 use Rattle.sheets.specs.Scan.{indexSize, Indexed}
 use Rattle.stores.specs.Keys.{linksSize, Linked}
+use Rattle.calls.specs.Prepared.{NotedSheet}
 use Rattle.calls.specs.declared.checks.Verdict.{Verdict}
 use Rattle.calls.specs.declared.checks.Verdict.the-variants.{Refused, Accepted}
 
@@ -47,14 +49,16 @@ pub record FromStore (types : List ℕ) (attributes nodes : ℕ) (m : Lent) (c :
 
 -- ---- The check of a call
 
--- The two indexes as a check leaves them. Their lengths stay. Where the sheet is refused, both are free; where the sheet is accepted and the store
--- is refused, the links are.
-pub record Indexes (sheet store : List ℕ) (kept : ℕ) (index links : List ℕ) : Type 0 where
+-- The two indexes and the notes as a check leaves them. Their lengths stay. Where the sheet is refused, all are free; where the sheet is accepted and
+-- the store is refused, the links are.
+pub record Indexes (sheet store : List ℕ) (kept : ℕ) (index notes links : List ℕ) : Type 0 where
   pub index-length : length index ≡ indexSize
   pub indexed : (s : Sheet) → checkSheet sheet ≡ accepted s → Indexed sheet s index
+  pub notes-length : length notes ≡ sheetLimit
+  pub noted : (s : Sheet) → checkSheet sheet ≡ accepted s → NotedSheet sheet index notes
   pub links-length : length links ≡ linksSize
   pub linked : (s : Sheet) → checkSheet sheet ≡ accepted s → (entries : List Entry) → checkStore s store kept ≡ accepted entries → Linked store kept links
 
-pub record CallChecked (sheet : List ℕ) (m : Lent) (c : Call) (index links : List ℕ) (r : Verdict) : Type 0 where
+pub record CallChecked (sheet : List ℕ) (m : Lent) (c : Call) (index notes links : List ℕ) (r : Verdict) : Type 0 where
   pub answer : r ≡ verdictOf (checkCall sheet m c)
-  pub scratch : Indexes sheet (m .store) (m .kept) index links
+  pub scratch : Indexes sheet (m .store) (m .kept) index notes links

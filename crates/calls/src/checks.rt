@@ -1,6 +1,7 @@
 // The checks of a question call: stops 1 to 13 in their order (document 01, "Stops by origin").
 use expressions::QuestionCheck;
 use saiga::limits::BUDGET_LIMIT;
+use saiga::limits::SHEET_LIMIT;
 use sheets::SheetCheck;
 use sheets::lookup::INDEX_SIZE;
 use stores::LINKS_SIZE;
@@ -60,20 +61,21 @@ fn check_from_store(
     }
 }
 
-// The check of a call's arguments. It fills the two indexes.
+// The check of a call's arguments. It fills the two indexes and the notes.
 pub fn check(
     sheet: &[u8],
     question: &[u8],
     store: &[u8],
     kept: usize,
     budget: usize,
-    index: &mut [u32; INDEX_SIZE],
+    index: &mut [u16; INDEX_SIZE],
+    notes: &mut [u8; SHEET_LIMIT],
     links: &mut [u16; LINKS_SIZE],
 ) -> Verdict
-    ensures { λ r. ⌜ CallChecked (now (sheet .entry)) (lent (now (store .entry)) kept) (asking (now (question .entry)) budget) (now (index .exit)) (now (links .exit)) r ⌝ }
+    ensures { λ r. ⌜ CallChecked (now (sheet .entry)) (lent (now (store .entry)) kept) (asking (now (question .entry)) budget) (now (index .exit)) (now (notes .exit)) (now (links .exit)) r ⌝ }
 {
     let chains: &mut [u16] = links;
-    match sheets::check(sheet, index) {
+    match sheets::check(sheet, index, notes) {
         SheetCheck::Refused(number, place) => Verdict::Refused(number, place),
         SheetCheck::Accepted(attributes, nodes) => check_from_store(
             sheet,

@@ -9,6 +9,7 @@ use engine::Registers;
 use expressions::QuestionCheck;
 use runs::RunEnd;
 use saiga::Value;
+use saiga::limits::SHEET_LIMIT;
 use sheets::lookup::INDEX_SIZE;
 use stores::LINKS_SIZE;
 ghost use mathlib.Core.List.{[]};
@@ -18,7 +19,7 @@ ghost use Rattle.saiga.specs.Ask.{lent, asking, refusal, checkCall, ask as call
 ghost use Rattle.stores.specs.Keys.{Linked};
 ghost use Rattle.calls.specs.Answers.{answerOf};
 ghost use Rattle.engine.specs.Loop.{started};
-ghost use Rattle.calls.specs.Prepared.{PreparedSheet, PreparedStore};
+ghost use Rattle.calls.specs.Prepared.{PreparedSheet, NotedSheet, PreparedStore};
 ghost use Rattle.calls.specs.Verdict.{Indexes};
 ghost use Rattle.calls.specs.Askable.{Askable, RunScratch};
 
@@ -54,7 +55,8 @@ fn begin(question: &[u8], kept: usize) -> Registers
 // An accepted question with a permitted budget is put to a checked store.
 fn put<'a>(
     sheet: &'a [u8],
-    index: &[u32],
+    index: &[u16],
+    notes: &[u8],
     question: &'a [u8],
     store: &mut [u8],
     links: &mut [u16],
@@ -62,7 +64,7 @@ fn put<'a>(
     kept: usize,
     budget: usize,
 ) -> Answer
-    requires { ⌜ Askable (now sheet) (now index) (now question) (now store) (now links) (now memory) kept budget ⌝ }
+    requires { ⌜ Askable (now sheet) (now index) (now notes) (now question) (now store) (now links) (now memory) kept budget ⌝ }
     ensures { λ r. ⌜ answerOf r ≡ called (now (sheet .entry)) (lent (now (store .entry)) kept) (asking (now (question .entry)) budget) .answer ⌝ }
     ensures { λ _. ⌜ now (store .exit) ≡ called (now (sheet .entry)) (lent (now (store .entry)) kept) (asking (now (question .entry)) budget) .store ⌝ }
     ensures { λ r. ⌜ Linked (now (store .exit)) (answerOf r .kept) (now (links .exit)) ⌝ }
@@ -72,7 +74,17 @@ fn put<'a>(
         budget,
         pause: budget,
     };
-    match runs::run(sheet, index, question, store, links, memory, limits, first) {
+    match runs::run(
+        sheet,
+        index,
+        notes,
+        question,
+        store,
+        links,
+        memory,
+        limits,
+        first,
+    ) {
         RunEnd::Finishes(m) => {
             let value = m.value;
             Answer::Value(value, m.steps, m.kept)
@@ -83,10 +95,11 @@ fn put<'a>(
     }
 }
 
-// A question to a sheet that was accepted and indexed, and to a store that was checked and indexed: what `ask` answers, at the cost of the question's own check and its steps. The store is indexed afterwards with the kept number of the answer.
+// A question to a sheet that was accepted, indexed and noted, and to a store that was checked and indexed: what `ask` answers, at the cost of the question's own check and its steps. The store is indexed afterwards with the kept number of the answer.
 pub fn ask_checked<'a>(
     sheet: &'a [u8],
-    index: &[u32],
+    index: &[u16],
+    notes: &[u8],
     question: &'a [u8],
     store: &mut [u8],
     kept: usize,
@@ -94,7 +107,7 @@ pub fn ask_checked<'a>(
     links: &mut [u16],
     memory: &mut [u64; RUN_SIZE],
 ) -> Answer
-    requires { ⌜ PreparedSheet (now sheet) (now index) ⌝ }
+    requires { ⌜ PreparedSheet (now sheet) (now index) × NotedSheet (now sheet) (now index) (now notes) ⌝ }
     requires { ⌜ PreparedStore (now sheet) (now store) kept (now links) ⌝ }
     ensures { λ r. ⌜ answerOf r ≡ called (now (sheet .entry)) (lent (now (store .entry)) kept) (asking (now (question .entry)) budget) .answer ⌝ }
     ensures { λ _. ⌜ now (store .exit) ≡ called (now (sheet .entry)) (lent (now (store .entry)) kept) (asking (now (question .entry)) budget) .store ⌝ }
@@ -110,6 +123,7 @@ pub fn ask_checked<'a>(
         QuestionCheck::Accepted(_) => put(
             sheet,
             index,
+            notes,
             question,
             store,
             links,
@@ -120,26 +134,37 @@ pub fn ask_checked<'a>(
     }
 }
 
-// A question call: the checks, and then the run. `index`, `links` and `memory` are scratch, of which nothing is asked.
+// A question call: the checks, and then the run. `index`, `notes`, `links` and `memory` are scratch, of which nothing is asked.
 pub fn ask<'a>(
     sheet: &'a [u8],
     question: &'a [u8],
     store: &mut [u8],
     kept: usize,
     budget: usize,
-    index: &mut [u32; INDEX_SIZE],
+    index: &mut [u16; INDEX_SIZE],
+    notes: &mut [u8; SHEET_LIMIT],
     links: &mut [u16; LINKS_SIZE],
     memory: &mut [u64; RUN_SIZE],
 ) -> Answer
     ensures { λ r. ⌜ answerOf r ≡ called (now (sheet .entry)) (lent (now (store .entry)) kept) (asking (now (question .entry)) budget) .answer ⌝ }
     ensures { λ _. ⌜ now (store .exit) ≡ called (now (sheet .entry)) (lent (now (store .entry)) kept) (asking (now (question .entry)) budget) .store ⌝ }
-    ensures { λ r. ⌜ Indexes (now (sheet .entry)) (now (store .exit)) (answerOf r .kept) (now (index .exit)) (now (links .exit)) ⌝ }
+    ensures { λ r. ⌜ Indexes (now (sheet .entry)) (now (store .exit)) (answerOf r .kept) (now (index .exit)) (now (notes .exit)) (now (links .exit)) ⌝ }
     ensures { λ _. ⌜ RunScratch (checkCall (now (sheet .entry)) (lent (now (store .entry)) kept) (asking (now (question .entry)) budget))
         (now (memory .entry)) (now (memory .exit)) ⌝ }
 {
     let words: &mut [u64] = memory;
-    match checks::check(sheet, question, store, kept, budget, index, links) {
+    match checks::check(sheet, question, store, kept, budget, index, notes, links) {
         Verdict::Refused(number, place) => refuse(number, place, kept),
-        Verdict::Accepted(_, _) => put(sheet, index, question, store, links, words, kept, budget),
+        Verdict::Accepted(_, _) => put(
+            sheet,
+            index,
+            notes,
+            question,
+            store,
+            links,
+            words,
+            kept,
+            budget,
+        ),
     }
 }

@@ -135,14 +135,14 @@ module _ (sheet question words forms : List ℕ) where
       go false e below = rw (same-words n (omega arith), e, below k (rw (e, plain-open) at counted) same-forms)
 
 -- four words in a row
-abbrev setFour : List ℕ → ℕ → ℕ → ℕ → ℕ → ℕ → List ℕ
+abbrev pub setFour : List ℕ → ℕ → ℕ → ℕ → ℕ → ℕ → List ℕ
 setFour forms f a b c d = set (set (set (set forms f a) (f + 1) b) (f + 2) c) (f + 3) d
 
 module _ (forms : List ℕ) (f a b c d : ℕ) (fits : f + 4 ≤ length forms) where
   abbrev four : List ℕ
   four = setFour forms f a b c d
 
-  four-older : (i : ℕ) → i < f → getD four i 0 ≡ getD forms i 0
+  pub four-older : (i : ℕ) → i < f → getD four i 0 ≡ getD forms i 0
   four-older i h =
       rw (getD-set-other _ (f + 3) i d 0 (omega arith), getD-set-other _ (f + 2) i c 0 (omega arith), getD-set-other _ (f + 1) i b 0 (omega arith))
       (getD-set-other forms f i a 0 (omega arith))
@@ -157,12 +157,12 @@ module _ (forms : List ℕ) (f a b c d : ℕ) (fits : f + 4 ≤ length forms) wh
       rw (getD-set-other _ (f + 3) (f + 1) d 0 (omega arith), getD-set-other _ (f + 2) (f + 1) c 0 (omega arith))
       (getD-set-same (set forms f a) (f + 1) b 0 (simp length-set (omega arith)))
 
-  four-third : getD four (f + 2) 0 ≡ c
+  pub four-third : getD four (f + 2) 0 ≡ c
   four-third =
       rw (getD-set-other _ (f + 3) (f + 2) d 0 (omega arith))
       (getD-set-same (set (set forms f a) (f + 1) b) (f + 2) c 0 (simp length-set (omega arith)))
 
-  four-last : getD four (f + 3) 0 ≡ d
+  pub four-last : getD four (f + 3) 0 ≡ d
   four-last = getD-set-same (set (set (set forms f a) (f + 1) b) (f + 2) c) (f + 3) d 0 (simp length-set (omega arith))
 
 -- One more form, in the place of the innermost of n frames.

@@ -17,7 +17,7 @@ use Rattle.expressions.specs.Widths.{Starts}
 use Rattle.engine.specs.FrameWords.{ifKind, leftKind, nodeWord}
 use Rattle.engine.specs.Decode.{formsIn}
 use Rattle.engine.specs.Steps.{Memory, Stepped, goes, returned, pushed, writeWord, thisNode, thisParameter, readHead, readNext}
-use Rattle.engine.specs.Represents.{WidthOf}
+use Rattle.expressions.specs.Noted.{WidthOf}
 use Rattle.engine.specs.Ready.{memoryOf, ParameterReady, HeadReady, ReadReady}
 use Rattle.engine.specs.declared.Registers.{Registers}
 use Rattle.engine.proofs.RunMemory.{goes-on-written}

@@ -8,7 +8,6 @@ pub mod Steps
 pub mod StoreWritten
 pub mod Attributes
 pub mod Kept
-pub mod Widths
 pub mod RunMemory
 pub mod HeadsRead
 pub mod ReadyForCode
@@ -16,3 +15,4 @@ pub mod Whole
 pub mod Left
 pub mod Loop
 pub mod Cost
+pub mod Tracking

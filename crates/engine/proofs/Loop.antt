@@ -25,6 +25,7 @@ use Rattle.saiga.proofs.Entries.{store-in}
 use Rattle.saiga.proofs.Preservation.{put-in, DueIn, due-in}
 use Rattle.saiga.proofs.Calls.{question-runs, question-in}
 use Rattle.sheets.specs.Scan.{Indexed}
+use Rattle.expressions.specs.Noted.{WidthOf}
 use Rattle.engine.specs.RunningPiece.{pieceIn, restOf}
 use Rattle.engine.specs.Machine.{Machine, Next, by-move, by-step, openForms, stateOf}
 use Rattle.engine.specs.Good.{Pieces, Good}
@@ -36,7 +37,7 @@ use Rattle.engine.specs.Decode.{frameLimit, formsSize, sheetIn, sheetOf,
 use Rattle.engine.specs.Steps.{Memory, Stepped, goes, waits, stepOf}
 use Rattle.engine.specs.Steps as Steps
 use Rattle.engine.specs.declared.Registers.{Registers}
-use Rattle.engine.specs.Represents.{machineIn, HoldsIn, Represents, Matches, WidthOf, PacksIn}
+use Rattle.engine.specs.Represents.{machineIn, HoldsIn, Represents, Matches, PacksIn}
 use Rattle.engine.specs.Loop.{Invariant, started, Final}
 use Rattle.engine.proofs.Whole.{step-whole}
 use Rattle.engine.proofs.Left.{store-moves, left-on}

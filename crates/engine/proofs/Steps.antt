@@ -20,6 +20,7 @@ use Rattle.saiga.specs.Store.{checkStore}
 use Rattle.saiga.specs.Ask.{reasonNumber}
 use Rattle.saiga.proofs.Preservation.{either}
 use Rattle.saiga.proofs.Reading.{read-width}
+use Rattle.expressions.specs.Noted.{WidthOf}
 use Rattle.engine.specs.RunningPiece.{restOf}
 use Rattle.values.specs.Packed.{valueIn}
 use Rattle.engine.specs.Machine.{Frame, on-if, on-left, on-skip, on-right, on-node, Mode, evaluating, returning, Machine, openForms, innermost, scopeIn, widthOf, passOver, Move, moves, takes, readHead, within, branch, give, readNext, moveOf, move}
@@ -32,7 +33,7 @@ use Rattle.engine.specs.Good.{Parses, Ready, GoodAt}
 use Rattle.engine.proofs.Bounds.{represents-sized, frames-fit}
 use Rattle.engine.specs.Machine.{Next, by-move, by-step}
 use Rattle.engine.proofs.Heads.{none-inside}
-use Rattle.engine.specs.Represents.{machineIn, HoldsIn, Represents, Matches, WidthOf, Packs, PacksIn}
+use Rattle.engine.specs.Represents.{machineIn, HoldsIn, Represents, Matches, Packs, PacksIn}
 use Rattle.engine.proofs.Decoding.{WordOf, if-kind, left-kind, skip-kind, right-kind, node-kind, right-word, node-word, parameter-word, pushed-frame, top-frame, turned-frame, frames-count, innermost-form, rest-on, rest-length, rest-inside, rest-behind}
 
 -- ---- What reading has tested behind a head

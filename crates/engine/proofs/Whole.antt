@@ -3,11 +3,12 @@ use mathlib.Core.List.{List}
 use mathlib.Core.Path.{refl}
 use Prim.Native.Nat.{ℕ, _/_}
 use lib.ListN.{length}
+use Rattle.expressions.specs.Noted.{WidthOf}
 use Rattle.engine.specs.RunningPiece.{restOf}
 use Rattle.engine.specs.Decode.{sheetOf}
 use Rattle.engine.specs.Steps.{Memory, stepOf}
 use Rattle.engine.specs.declared.Registers.{Registers}
-use Rattle.engine.specs.Represents.{machineIn, Represents, Matches, WidthOf, PacksIn}
+use Rattle.engine.specs.Represents.{machineIn, Represents, Matches, PacksIn}
 use Rattle.engine.proofs.Attributes.{attribute-matches, close-matches}
 use Rattle.engine.proofs.Kept.{by-key}
 use Rattle.engine.proofs.Steps.{step-matches}

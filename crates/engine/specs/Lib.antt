@@ -9,3 +9,4 @@ pub mod Ready
 pub mod Loop
 pub mod CodeSteps
 pub mod Cost
+pub mod Tracks

@@ -8,9 +8,10 @@ use Rattle.saiga.specs.Limits.{nodeLimit, depthLimit}
 use Rattle.saiga.specs.Values.{wordLimit, baseOf, isWord}
 use Rattle.saiga.specs.Expressions.{Head, base-literal, function-literal, if-head, application-head, attribute-head, this-head, parameter-head, no-head, headOf}
 use Rattle.values.specs.Layout.{parameterAt}
-use Rattle.expressions.specs.Widths.{headWidth}
+use Rattle.expressions.specs.Noted.{WidthOf}
+use Rattle.expressions.specs.Widths.{Starts, headWidth}
 use Rattle.engine.specs.FrameWords.{pairNode, pairAttribute}
-use Rattle.engine.specs.Represents.{WidthOf, Packs}
+use Rattle.engine.specs.Represents.{Packs}
 use Rattle.engine.specs.Decode.{frameLimit, runSize, wordsIn, formsIn}
 use Rattle.engine.specs.Steps.{Memory, writeWord}
 use Rattle.engine.specs.declared.Registers.{Registers}
@@ -77,6 +78,12 @@ pub record Rewrites (m : Registers) (run run′ : List ℕ) (word : ℕ → ℕ)
   pub packed : ℕ
   pub packs : Packs (m .value) packed
   pub written : (store : List ℕ) → memoryOf store run′ ≡ writeWord (memoryOf store run) (m .frames - 1) (word packed)
+
+-- An expression stands at the front of the rest, to be passed over. Inside a form its width is noted.
+pub record PassReady (notes e : List ℕ) (m : Registers) : Type 0 where
+  pub starts : Starts e
+  pub inside : 0 < m .forms → m .at < length notes
+  pub noted : 0 < m .forms → WidthOf e (1 + getD notes (m .at) 0)
 
 -- what holds of the width of the expression at the front of the rest
 pub record Passes (e : List ℕ) (P : ℕ → Type 0) : Type 0 where

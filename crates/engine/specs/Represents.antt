@@ -7,7 +7,6 @@ use lib.ListN.{length, getD}
 use Rattle.saiga.specs.Limits.{entryWidth}
 use Rattle.saiga.specs.Values.{Base, base}
 use Rattle.saiga.specs.declared.Value.{Value}
-use Rattle.saiga.specs.Expressions.{Expr, Scope, reads, readExpr}
 use Rattle.saiga.specs.Sheet.{nodeCount, attributeCount, accepted, checkSheet}
 use Rattle.saiga.specs.Caching.{Reason}
 use Rattle.saiga.specs.Ask.{reasonNumber}
@@ -47,10 +46,6 @@ module _ (sheet question : List ℕ) (capacity budget limit : ℕ) (m : Register
   Matches waits = (limit ≤ m .steps) × (m .steps < budget)
   Matches Stepped.finishes = move (sheetOf sheet) capacity budget M ≡ finishes (m .value)
   Matches (Stepped.stops n) = (r : Reason) × (move (sheetOf sheet) capacity budget M ≡ stops r) × (reasonNumber r ≡ n)
-
--- the width of the expression at the front of some bytes, in every scope in which there is one
-abbrev pub WidthOf : List ℕ → ℕ → Type 0
-WidthOf l skip = (sc : Scope) (f : Expr) (w : ℕ) → readExpr sc (length l) l ≡ reads f w → skip ≡ w
 
 -- a value in a word
 abbrev pub Packs : Value → ℕ → Type 0

@@ -16,11 +16,11 @@ ghost use Rattle.saiga.specs.Limits.{attributeLimit};
 ghost use Rattle.saiga.specs.Values.{truth, apply as applied};
 ghost use Rattle.values.specs.Packed.{valueIn};
 ghost use Rattle.engine.specs.FrameWords.{rightWord, heldFunction, parameterWord};
-ghost use Rattle.expressions.specs.Widths.{Starts};
+ghost use Rattle.expressions.specs.Noted.{WidthOf};
 ghost use Rattle.engine.specs.RunningPiece.{pieceIn, restOf};
 ghost use Rattle.engine.specs.Steps.{goes, returned as returnedTo, pushed as pushedOn, answered as answeredBy, turned as turnedTo, thisNode, thisParameter, readNext, takeIf};
 ghost use Rattle.engine.specs.Decode.{formsIn};
-ghost use Rattle.engine.specs.Ready.{memoryOf, NodeReady, ParameterReady, ReadReady, FrameReady, Rewrites, Passes, skipped};
+ghost use Rattle.engine.specs.Ready.{memoryOf, NodeReady, ParameterReady, ReadReady, FrameReady, Rewrites, PassReady, Passes, skipped};
 
 // The machine's state by value: whether a value is being returned, the rest of the running piece from `at` to `end`, the numbers of
 // frames, open forms, kept entries and counted steps, and the value.
@@ -217,16 +217,29 @@ pub fn take_node(memory: &mut [u64], m: Registers, a: u64) -> Registers
     turned(m)
 }
 
+// The width of the expression at the front of the rest `e` of the running piece. Inside a form the sheet's check has noted it, less one. The question is
+// evaluated once, and what is passed over of it is never passed over again: it is measured.
+fn width(notes: &[u8], e: &[u8], m: Registers) -> usize
+    requires { ⌜ PassReady (now notes) (now e) m ⌝ }
+    ensures { λ r. ⌜ WidthOf (now (e .entry)) r ⌝ }
+{
+    if m.forms == 0 {
+        return expressions::width(e);
+    }
+    let at = m.at;
+    1 + notes[at] as usize
+}
+
 // The value of the branch that was taken: the other is passed over. `e` is the rest of the running piece.
-pub fn take_skip(e: &[u8], m: Registers) -> Registers
-    requires { ⌜ Starts (now e) ⌝ }
+pub fn take_skip(notes: &[u8], e: &[u8], m: Registers) -> Registers
+    requires { ⌜ PassReady (now notes) (now e) m ⌝ }
     requires { ⌜ (1 ≤ m .frames) × (m .at + length (now e) < 2 ^ 64) ⌝ }
     ensures { λ r. ⌜ Passes (now (e .entry)) (λ skip. r ≡ skipped m skip) ⌝ }
 {
     let value = m.value;
     Registers {
         returning: true,
-        at: m.at + expressions::width(e),
+        at: m.at + width(notes, e, m),
         end: m.end,
         frames: m.frames - 1,
         forms: m.forms,
@@ -237,8 +250,8 @@ pub fn take_skip(e: &[u8], m: Registers) -> Registers
 }
 
 // IF: the first branch is evaluated and the second passed over after it, or the first is passed over.
-pub fn take_if(e: &[u8], memory: &mut [u64], m: Registers) -> Registers
-    requires { ⌜ Starts (now e) ⌝ }
+pub fn take_if(notes: &[u8], e: &[u8], memory: &mut [u64], m: Registers) -> Registers
+    requires { ⌜ PassReady (now notes) (now e) m ⌝ }
     requires { ⌜ FrameReady (now memory) m × (m .at + length (now e) < 2 ^ 64) × (m .steps + 1 < 2 ^ 64) ⌝ }
     ensures { λ r. ⌜ Passes (now (e .entry)) (λ skip. (store : List ℕ)
         → goes r (memoryOf store (now (memory .exit))) ≡ takeIf skip (memoryOf store (now (memory .entry))) m (truth (m .value))) ⌝ }
@@ -260,7 +273,7 @@ pub fn take_if(e: &[u8], memory: &mut [u64], m: Registers) -> Registers
     }
     Registers {
         returning: false,
-        at: m.at + expressions::width(e),
+        at: m.at + width(notes, e, m),
         end: m.end,
         frames: m.frames - 1,
         forms: m.forms,

@@ -23,7 +23,7 @@ abbrev pub FormAt : Scope → List Attribute → Base → List ℕ → Form → 
 FormAt s sig p l r = (k : ℕ) → length l ≤ k → r ≡ formOf sig p (readExpr s k l)
 
 -- the bytes from m on, as the code lends them
-abbrev from : List ℕ → ℕ → List ℕ
+abbrev pub from : List ℕ → ℕ → List ℕ
 from l m = take (length l - m) (drop m l)
 
 -- what an expression that was read takes of the bytes it was read from

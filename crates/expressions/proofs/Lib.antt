@@ -1,7 +1,9 @@
-pub mod TypeNumbers
-pub mod Literals
 pub mod Composites
-pub mod Wholes
-pub mod Questions
-pub mod Within
+pub mod Literals
+pub mod Noting
 pub mod Passing
+pub mod Questions
+pub mod TypeNumbers
+pub mod Wholes
+pub mod Widths
+pub mod Within

@@ -14,12 +14,12 @@ use Rattle.saiga.proofs.Reading.{read-fuel, read-width}
 use Rattle.expressions.specs.Widths.{headWidth, following, shapeOf}
 
 -- `n` expressions at the front of `l` take `w` bytes
-data Passes (sc : Scope) : ℕ → List ℕ → ℕ → Type 0 where
+pub data Passes (sc : Scope) : ℕ → List ℕ → ℕ → Type 0 where
   none : {l : List ℕ} → Passes sc 0 l 0
   more : {n : ℕ} {l : List ℕ} {m w : ℕ} {x : Expr} → readExpr sc (length l) l ≡ reads x m → Passes sc n (drop m l) w → Passes sc (suc n) l (m + w)
 
 -- Each takes at least a byte, and none reaches past the end.
-passes-within : {sc : Scope} {n : ℕ} {l : List ℕ} {w : ℕ} → Passes sc n l w → (n ≤ w) × (w ≤ length l)
+pub passes-within : {sc : Scope} {n : ℕ} {l : List ℕ} {w : ℕ} → Passes sc n l w → (n ≤ w) × (w ≤ length l)
 passes-within none = (omega arith, omega arith)
 passes-within {sc} {l} (more {m} {x} r p) =
     let one = read-width sc (length l) l x m r in
@@ -45,10 +45,10 @@ follow (reads x m) f h k = k x m refl h
 -- ---- The law of a head
 
 -- `n` expressions behind one with the head `h` take `v` bytes with it: the head with its operand, and what follows, with `following h` expressions more
-record Opened (sc : Scope) (h : Head) (n : ℕ) (l : List ℕ) (v : ℕ) : Type 0 where
-  rest : ℕ
-  total : headWidth h + rest ≡ v
-  passes : Passes sc (n + following h) (drop (headWidth h) l) rest
+pub record Opened (sc : Scope) (h : Head) (n : ℕ) (l : List ℕ) (v : ℕ) : Type 0 where
+  pub rest : ℕ
+  pub total : headWidth h + rest ≡ v
+  pub passes : Passes sc (n + following h) (drop (headWidth h) l) rest
 
 module _ (sc : Scope) (c : ℕ) (l : List ℕ) (k : ℕ) (fits : length l ≤ k) where
   first : {x : Expr} {m n u : ℕ} → readExpr sc k l ≡ reads x m → Passes sc n (drop m l) u → Passes sc (suc n) l (m + u)
@@ -93,13 +93,13 @@ module _ (sc : Scope) (c : ℕ) (l : List ℕ) (k : ℕ) (fits : length l ≤ k)
     opened parameter-head h = behind parameter-head 0 n 0 v (passed _ h) refl (omega arith) refl refl (λ p. p)
     opened no-head h = never h
 
-open-head : {sc : Scope} {c : ℕ} {l : List ℕ} {n w : ℕ} → Passes sc (suc n) (c ∷ l) w → Opened sc (headOf c) n (c ∷ l) w
+pub open-head : {sc : Scope} {c : ℕ} {l : List ℕ} {n w : ℕ} → Passes sc (suc n) (c ∷ l) w → Opened sc (headOf c) n (c ∷ l) w
 unfolding readExpr
 open-head {sc} {c} {l} {n} (more {w} r p) = opened sc c l (length l) (omega arith) n w p (headOf c) r
 
 -- ---- A head's shape
 
-width-small : (h : Head) → (0 < headWidth h) × (headWidth h < 8)
+pub width-small : (h : Head) → (0 < headWidth h) × (headWidth h < 8)
 width-small (base-literal unitT) = (lit< tt, lit< tt)
 width-small (base-literal boolT) = (lit< tt, lit< tt)
 width-small (base-literal intT) = (lit< tt, lit< tt)

@@ -1,21 +1,28 @@
 // The form and the type of expressions (document 01, "The sheet"), read in one recursion over the bytes; and the width of the expression at the
 // front of bytes that are known to have one.
-// A type has a number (specs/Forms.antt): 1 Unit, 2 Bool, 3 Int, 4 Node, and from 5 on those of functions; 0 stands for no type.
+// A reader is lent `notes`, in which `at` is the place of the first byte that it reads: at the place of each expression's first byte it leaves the
+// expression's width less one (specs/Noted.antt).
+pub mod numbers;
+
 use saiga::limits::EXPRESSION_LIMIT;
 ghost use mathlib.Core.Bool.{cond};
 ghost use mathlib.Core.Path.{_≡_};
 ghost use mathlib.Core.List.{List};
-ghost use mathlib.Core.Option.{Option};
 ghost use Prim.Native.Nat.{ℕ, _+_, _*_, _%_, _≤_, _<_};
-ghost use lib.ListN.{length};
-ghost use Rattle.saiga.specs.Values.{Base, boolT, nodeT, baseCode, baseOf, Ty, functionOf, functionType};
+ghost use lib.ListN.{length, drop};
+ghost use Rattle.saiga.specs.Limits.{expressionLimit};
+ghost use Rattle.saiga.specs.Values.{Base, boolT, nodeT, baseOf};
 ghost use Rattle.saiga.specs.Expressions.{Scope, Expr, base-literal, function-literal, if-head, application-head, attribute-head, headOf, reads, readExpr, readWhole};
-ghost use Rattle.saiga.specs.Types.{Attribute, attributeAt, inferIf, inferApplication};
+ghost use Rattle.saiga.specs.Types.{Attribute};
 ghost use Rattle.saiga.specs.Sheet.{Sheet, nodeCount};
 ghost use Rattle.saiga.specs.Ask.{checkQuestion};
-ghost use Rattle.expressions.specs.Forms.{typeNumber, inferredNumber, inferAttribute, scopeOf, thisIn, parameterIn, formOf, formAfter, formedOf, questionOf};
+ghost use Rattle.expressions.specs.Forms.{scopeOf, thisIn, parameterIn, formOf, formAfter, formedOf, questionOf};
+ghost use Rattle.expressions.specs.Noted.{Notes, NotesInside, NotesBehind, NotesWhole};
 ghost use Rattle.expressions.specs.Widths.{Starts, shapeOf};
 ghost use Rattle.values.specs.Layout.{attributesIn};
+
+// The question for an attribute of a node is shorter than this.
+const SHORT_QUESTION: usize = 16;
 
 // Null, as the number of a node.
 const NULL_NODE: usize = saiga::NULL as usize;
@@ -36,70 +43,6 @@ pub enum Formed {
 pub enum QuestionCheck {
     Refused(u32),
     Accepted(u32),
-}
-
-// The number of the base type with this code.
-pub fn base_number(code: u8) -> u32
-    ensures { λ r. ⌜ r ≡ baseCode (baseOf code) + 1 ⌝ }
-{
-    match code {
-        0 => 1,
-        1 => 2,
-        2 => 3,
-        _ => 4,
-    }
-}
-
-// The number of the type of the function with this code.
-fn function_number(code: u8) -> u32
-    ensures { λ r. ⌜ r ≡ typeNumber (functionType (functionOf code)) ⌝ }
-{
-    match code {
-        0 => 47,
-        1 => 47,
-        2 => 52,
-        3 => 10,
-        4 => 63,
-        _ => 63,
-    }
-}
-
-// IF: the condition is a Bool, and the branches have one type.
-fn if_number(c: u32, t: u32, e: u32) -> u32
-    ensures { λ r. ⌜ ((C T E : Option Ty) → c ≡ inferredNumber C → t ≡ inferredNumber T → e ≡ inferredNumber E
-        → r ≡ inferredNumber (inferIf C T E)) ⌝ }
-{
-    if c != 2 {
-        return 0;
-    }
-    if t == e { t } else { 0 }
-}
-
-// Application of f to x: the type of f is p ⇒ r and that of x is p.
-fn application_number(f: u32, x: u32) -> u32
-    ensures { λ r. ⌜ ((F X : Option Ty) → f ≡ inferredNumber F → x ≡ inferredNumber X
-        → r ≡ inferredNumber (inferApplication F X)) ⌝ }
-{
-    if f < 5 {
-        return 0;
-    }
-    if (f - 1) % 4 + 1 == x { (f - 1) / 4 } else { 0 }
-}
-
-// Attribute a of a node, with parameter x: the type bytes stand in the attribute's command.
-fn attribute_number(types: &[u8], a: usize, n: u32, x: u32) -> u32
-    requires { ⌜ 3 * a + 3 ≤ length (now types) ⌝ }
-    ensures { λ r. ⌜ ((attributes : ℕ) (N X : Option Ty) → a < attributes → n ≡ inferredNumber N → x ≡ inferredNumber X
-        → r ≡ inferredNumber (inferAttribute (attributeAt (attributesIn (now (types .entry)) attributes) a) N X)) ⌝ }
-{
-    if n != 4 {
-        return 0;
-    }
-    if x == base_number(values::parameter_at(types, a)) {
-        base_number(values::result_at(types, a))
-    } else {
-        0
-    }
 }
 
 // The operand of a Bool: 0 or 1. The bytes l are those after the head, here and below.
@@ -146,51 +89,89 @@ fn read_function(l: &[u8]) -> Form
     }
     let f = l[0];
     if f < 6 {
-        Form::Reads(2, function_number(f))
+        Form::Reads(2, numbers::function_number(f))
     } else {
         Form::Malformed
     }
 }
 
 // The three expressions of an IF.
-fn read_if(types: &[u8], attributes: usize, nodes: usize, within: u32, l: &[u8]) -> Form
+fn read_if(
+    types: &[u8],
+    attributes: usize,
+    nodes: usize,
+    within: u32,
+    l: &[u8],
+    notes: &mut [u8],
+    at: usize,
+) -> Form
     requires { ⌜ 3 * attributes ≤ length (now types) ⌝ }
+    requires { ⌜ (length (now l) ≤ expressionLimit) × (at + length (now l) ≤ length (now notes)) ⌝ }
     ensures { λ r. ⌜ ((k : ℕ) → length (now (l .entry)) ≤ k
         → r ≡ formAfter (scopeOf nodes attributes (thisIn within) (parameterIn within)) (attributesIn (now (types .entry)) attributes) (baseOf (within % 256)) k if-head (now (l .entry))) ⌝ }
+    ensures { λ r. ⌜ NotesInside 1 (now (l .entry)) at (now (notes .entry)) (now (notes .exit)) r ⌝ }
 {
-    let Form::Reads(m, c) = read(types, attributes, nodes, within, l) else {
+    let Form::Reads(m, c) = read(types, attributes, nodes, within, l, notes, at) else {
         return Form::Malformed;
     };
-    let Form::Reads(n, t) = read(types, attributes, nodes, within, &l[m..]) else {
+    let Form::Reads(n, t) = read(types, attributes, nodes, within, &l[m..], notes, at + m) else {
         return Form::Malformed;
     };
-    let at = m + n;
-    let Form::Reads(o, e) = read(types, attributes, nodes, within, &l[at..]) else {
+    let both = m + n;
+    let Form::Reads(o, e) = read(
+        types,
+        attributes,
+        nodes,
+        within,
+        &l[both..],
+        notes,
+        at + both,
+    ) else {
         return Form::Malformed;
     };
-    Form::Reads(1 + m + n + o, if_number(c, t, e))
+    Form::Reads(1 + m + n + o, numbers::if_number(c, t, e))
 }
 
 // The two expressions of an application.
-fn read_application(types: &[u8], attributes: usize, nodes: usize, within: u32, l: &[u8]) -> Form
+fn read_application(
+    types: &[u8],
+    attributes: usize,
+    nodes: usize,
+    within: u32,
+    l: &[u8],
+    notes: &mut [u8],
+    at: usize,
+) -> Form
     requires { ⌜ 3 * attributes ≤ length (now types) ⌝ }
+    requires { ⌜ (length (now l) ≤ expressionLimit) × (at + length (now l) ≤ length (now notes)) ⌝ }
     ensures { λ r. ⌜ ((k : ℕ) → length (now (l .entry)) ≤ k
         → r ≡ formAfter (scopeOf nodes attributes (thisIn within) (parameterIn within)) (attributesIn (now (types .entry)) attributes) (baseOf (within % 256)) k application-head (now (l .entry))) ⌝ }
+    ensures { λ r. ⌜ NotesInside 1 (now (l .entry)) at (now (notes .entry)) (now (notes .exit)) r ⌝ }
 {
-    let Form::Reads(m, f) = read(types, attributes, nodes, within, l) else {
+    let Form::Reads(m, f) = read(types, attributes, nodes, within, l, notes, at) else {
         return Form::Malformed;
     };
-    let Form::Reads(n, x) = read(types, attributes, nodes, within, &l[m..]) else {
+    let Form::Reads(n, x) = read(types, attributes, nodes, within, &l[m..], notes, at + m) else {
         return Form::Malformed;
     };
-    Form::Reads(1 + m + n, application_number(f, x))
+    Form::Reads(1 + m + n, numbers::application_number(f, x))
 }
 
 // The attribute's number, and the expressions of the node and the parameter.
-fn read_attribute(types: &[u8], attributes: usize, nodes: usize, within: u32, l: &[u8]) -> Form
+fn read_attribute(
+    types: &[u8],
+    attributes: usize,
+    nodes: usize,
+    within: u32,
+    l: &[u8],
+    notes: &mut [u8],
+    at: usize,
+) -> Form
     requires { ⌜ 3 * attributes ≤ length (now types) ⌝ }
+    requires { ⌜ (length (now l) ≤ expressionLimit) × (at + length (now l) ≤ length (now notes)) ⌝ }
     ensures { λ r. ⌜ ((k : ℕ) → length (now (l .entry)) ≤ k
         → r ≡ formAfter (scopeOf nodes attributes (thisIn within) (parameterIn within)) (attributesIn (now (types .entry)) attributes) (baseOf (within % 256)) k attribute-head (now (l .entry))) ⌝ }
+    ensures { λ r. ⌜ NotesInside 2 (drop 1 (now (l .entry))) (at + 1) (now (notes .entry)) (now (notes .exit)) r ⌝ }
 {
     if l.len() == 0 {
         return Form::Malformed;
@@ -199,22 +180,40 @@ fn read_attribute(types: &[u8], attributes: usize, nodes: usize, within: u32, l:
     if attributes <= a {
         return Form::Malformed;
     }
-    let Form::Reads(m, n) = read(types, attributes, nodes, within, &l[1..]) else {
+    let Form::Reads(m, n) = read(types, attributes, nodes, within, &l[1..], notes, at + 1) else {
         return Form::Malformed;
     };
-    let at = 1 + m;
-    let Form::Reads(o, x) = read(types, attributes, nodes, within, &l[at..]) else {
+    let second = 1 + m;
+    let Form::Reads(o, x) = read(
+        types,
+        attributes,
+        nodes,
+        within,
+        &l[second..],
+        notes,
+        at + second,
+    ) else {
         return Form::Malformed;
     };
-    Form::Reads(2 + m + o, attribute_number(types, a, n, x))
+    Form::Reads(2 + m + o, numbers::attribute_number(types, a, n, x))
 }
 
-// The expression at the front of e. The types of the attributes are read off their commands, `types`; `within` says in
+// The expression at the front of e, by its head. The types of the attributes are read off their commands, `types`; `within` says in
 // one number, so that the recursion hands on few, what `within_of` puts into it.
-pub fn read(types: &[u8], attributes: usize, nodes: usize, within: u32, e: &[u8]) -> Form
+fn read_by_head(
+    types: &[u8],
+    attributes: usize,
+    nodes: usize,
+    within: u32,
+    e: &[u8],
+    notes: &mut [u8],
+    at: usize,
+) -> Form
     requires { ⌜ 3 * attributes ≤ length (now types) ⌝ }
+    requires { ⌜ (length (now e) ≤ expressionLimit) × (at + length (now e) ≤ length (now notes)) ⌝ }
     ensures { λ r. ⌜ ((k : ℕ) → length (now (e .entry)) ≤ k
         → r ≡ formOf (attributesIn (now (types .entry)) attributes) (baseOf (within % 256)) (readExpr (scopeOf nodes attributes (thisIn within) (parameterIn within)) k (now (e .entry)))) ⌝ }
+    ensures { λ r. ⌜ NotesBehind (now (e .entry)) at (now (notes .entry)) (now (notes .exit)) r ⌝ }
 {
     if e.len() == 0 {
         return Form::Malformed;
@@ -233,9 +232,9 @@ pub fn read(types: &[u8], attributes: usize, nodes: usize, within: u32, e: &[u8]
         }
         0x13 => read_node(nodes, l),
         0x14 => read_function(l),
-        0x20 => read_if(types, attributes, nodes, within, l),
-        0x21 => read_application(types, attributes, nodes, within, l),
-        0x22 => read_attribute(types, attributes, nodes, within, l),
+        0x20 => read_if(types, attributes, nodes, within, l, notes, at + 1),
+        0x21 => read_application(types, attributes, nodes, within, l, notes, at + 1),
+        0x22 => read_attribute(types, attributes, nodes, within, l, notes, at + 1),
         0x30 => {
             if within / 256 % 2 == 1 {
                 Form::Reads(1, 4)
@@ -245,13 +244,36 @@ pub fn read(types: &[u8], attributes: usize, nodes: usize, within: u32, e: &[u8]
         }
         0x31 => {
             if within / 512 % 2 == 1 {
-                Form::Reads(1, base_number((within % 256) as u8))
+                Form::Reads(1, numbers::base_number((within % 256) as u8))
             } else {
                 Form::Malformed
             }
         }
         _ => Form::Malformed,
     }
+}
+
+// The expression at the front of e, with its width noted.
+fn read(
+    types: &[u8],
+    attributes: usize,
+    nodes: usize,
+    within: u32,
+    e: &[u8],
+    notes: &mut [u8],
+    at: usize,
+) -> Form
+    requires { ⌜ 3 * attributes ≤ length (now types) ⌝ }
+    requires { ⌜ (length (now e) ≤ expressionLimit) × (at + length (now e) ≤ length (now notes)) ⌝ }
+    ensures { λ r. ⌜ ((k : ℕ) → length (now (e .entry)) ≤ k
+        → r ≡ formOf (attributesIn (now (types .entry)) attributes) (baseOf (within % 256)) (readExpr (scopeOf nodes attributes (thisIn within) (parameterIn within)) k (now (e .entry)))) ⌝ }
+    ensures { λ r. ⌜ Notes (now (e .entry)) at (now (notes .entry)) (now (notes .exit)) r ⌝ }
+{
+    let Form::Reads(w, t) = read_by_head(types, attributes, nodes, within, e, notes, at) else {
+        return Form::Malformed;
+    };
+    notes[at] = (w - 1) as u8;
+    Form::Reads(w, t)
 }
 
 fn flag(b: bool, n: u32) -> u32
@@ -276,15 +298,20 @@ pub fn read_whole(
     parameter: bool,
     p: u8,
     e: &[u8],
+    notes: &mut [u8],
+    at: usize,
 ) -> Formed
     requires { ⌜ 3 * attributes ≤ length (now types) ⌝ }
+    requires { ⌜ (length (now e) ≤ expressionLimit → at + length (now e) ≤ length (now notes)) ⌝ }
     ensures { λ r. ⌜ r ≡ formedOf (attributesIn (now (types .entry)) attributes) (baseOf p)
         (readWhole (scopeOf nodes attributes this parameter) (now (e .entry))) ⌝ }
+    ensures { λ r. ⌜ NotesWhole (now (e .entry)) at (now (notes .entry)) (now (notes .exit)) r ⌝ }
 {
     if EXPRESSION_LIMIT < e.len() {
         return Formed::NoExpression;
     }
-    let Form::Reads(w, t) = read(types, attributes, nodes, within_of(this, parameter, p), e) else {
+    let within = within_of(this, parameter, p);
+    let Form::Reads(w, t) = read(types, attributes, nodes, within, e, notes, at) else {
         return Formed::NoExpression;
     };
     if w == e.len() {
@@ -295,6 +322,43 @@ pub fn read_whole(
 }
 
 // A question: an expression of a base type, with neither 0x30 nor 0x31. The parameter's type, here Unit, is then never asked.
+fn question_noted(
+    types: &[u8],
+    attributes: usize,
+    nodes: usize,
+    question: &[u8],
+    notes: &mut [u8],
+) -> QuestionCheck
+    requires { ⌜ 3 * attributes ≤ length (now types) ⌝ }
+    requires { ⌜ (length (now question) ≤ expressionLimit → length (now question) ≤ length (now notes)) ⌝ }
+    ensures { λ r. ⌜ ((s : Sheet) → s .attributes ≡ attributesIn (now (types .entry)) attributes → nodeCount s ≡ nodes
+        → r ≡ questionOf (s .attributes) (checkQuestion s (now (question .entry)))) ⌝ }
+{
+    let this = false;
+    let parameter = false;
+    let Formed::Expression(t) = read_whole(
+        types,
+        attributes,
+        nodes,
+        this,
+        parameter,
+        0,
+        question,
+        notes,
+        0,
+    ) else {
+        return QuestionCheck::Refused(12);
+    };
+    if t == 0 {
+        return QuestionCheck::Refused(13);
+    }
+    if 4 < t {
+        return QuestionCheck::Refused(13);
+    }
+    QuestionCheck::Accepted(t - 1)
+}
+
+// The check of a question. What is noted of it is forgotten, since its bytes are evaluated once in a call. For a short one little is cleared.
 pub fn check_question(
     types: &[u8],
     attributes: usize,
@@ -305,17 +369,12 @@ pub fn check_question(
     ensures { λ r. ⌜ ((s : Sheet) → s .attributes ≡ attributesIn (now (types .entry)) attributes → nodeCount s ≡ nodes
         → r ≡ questionOf (s .attributes) (checkQuestion s (now (question .entry)))) ⌝ }
 {
-    let Formed::Expression(t) = read_whole(types, attributes, nodes, false, false, 0, question)
-    else {
-        return QuestionCheck::Refused(12);
-    };
-    if t == 0 {
-        return QuestionCheck::Refused(13);
+    if question.len() <= SHORT_QUESTION {
+        let mut notes = [0u8; SHORT_QUESTION];
+        return question_noted(types, attributes, nodes, question, &mut notes);
     }
-    if 4 < t {
-        return QuestionCheck::Refused(13);
-    }
-    QuestionCheck::Accepted(t - 1)
+    let mut notes = [0u8; EXPRESSION_LIMIT];
+    question_noted(types, attributes, nodes, question, &mut notes)
 }
 
 // ---- The width of an expression

@@ -23,8 +23,8 @@ pub record Made (sheet input store : List ℕ) (s : State) (left : ℕ) : Type 0
   pub so-far : Turns sheet made read answers (viewOf input store s)
   pub counted : made + left ≡ 18446744073709551615
 
-pub record Running (check : SheetCheck) (sheet index input₀ store₀ links₀ input store links line : List ℕ) (s : State) (left : ℕ) : Type 0 where
-  pub prepared : Prepared check sheet index store (s .kept) links
+pub record Running (check : SheetCheck) (sheet index notes input₀ store₀ links₀ input store links line : List ℕ) (s : State) (left : ℕ) : Type 0 where
+  pub prepared : Prepared check sheet index notes store (s .kept) links
   pub within : Within input s
   pub turns : Made sheet input store s left
   pub input-same : length input ≡ length input₀
@@ -44,9 +44,9 @@ made-none {sheet} input store e =
       counted = refl;
     }
 
-pub running-start : (check : SheetCheck) (sheet index input store links line : List ℕ) → Prepared check sheet index store 0 links → lent store 0 ≡ empty entryLimit → length line ≡ 128
-    → Running check sheet index input store links input store links line record { from = 0; to = 0; came = 0; kept = 0; ended = false; going = true; line = 0 } 18446744073709551615
-running-start check sheet index input store links line p e size =
+pub running-start : (check : SheetCheck) (sheet index notes input store links line : List ℕ) → Prepared check sheet index notes store 0 links → lent store 0 ≡ empty entryLimit → length line ≡ 128
+    → Running check sheet index notes input store links input store links line record { from = 0; to = 0; came = 0; kept = 0; ended = false; going = true; line = 0 } 18446744073709551615
+running-start check sheet index notes input store links line p e size =
     record {
       prepared = p;
       within = (omega arith, omega arith);
@@ -58,9 +58,9 @@ running-start check sheet index input store links line p e size =
     }
 
 -- a read for the next turn keeps the store prepared
-pub still-prepared : {check : SheetCheck} {sheet index store links input input' : List ℕ} {s s' : State} → Prepared check sheet index store (s .kept) links
-    → Fetched input input' s s' → Prepared check sheet index store (s' .kept) links
-still-prepared {check} {sheet} {index} {store} {links} p f = subst (λ k. Prepared check sheet index store k links) (sym (ap (λ v. v .lends .kept) (f .same store))) p
+pub still-prepared : {check : SheetCheck} {sheet index notes store links input input' : List ℕ} {s s' : State} → Prepared check sheet index notes store (s .kept) links
+    → Fetched input input' s s' → Prepared check sheet index notes store (s' .kept) links
+still-prepared {check} {sheet} {index} {notes} {store} {links} p f = subst (λ k. Prepared check sheet index notes store k links) (sym (ap (λ v. v .lends .kept) (f .same store))) p
 
 -- one turn more
 pub made-one : {sheet input input' store store' : List ℕ} {s s' r : State} {left : ℕ} → Made sheet input store s left → s .going ≡ true → Fetched input input' s s'
@@ -79,12 +79,12 @@ made-one {sheet} {store = store} {left = left} m going f e some =
     }
 
 -- a turn, with what was read for it
-pub running-on : {check : SheetCheck} {sheet index input₀ store₀ links₀ input store links line : List ℕ} {s : State} {left : ℕ}
-    → Running check sheet index input₀ store₀ links₀ input store links line s left → s .going ≡ true → 0 < left
+pub running-on : {check : SheetCheck} {sheet index notes input₀ store₀ links₀ input store links line : List ℕ} {s : State} {left : ℕ}
+    → Running check sheet index notes input₀ store₀ links₀ input store links line s left → s .going ≡ true → 0 < left
     → {input' : List ℕ} {s' : State} → Fetched input input' s s' → length input' ≡ length input
-    → {store' links' line' : List ℕ} {r : State} → Prepared check sheet index store' (r .kept) links' → Within input' r
+    → {store' links' line' : List ℕ} {r : State} → Prepared check sheet index notes store' (r .kept) links' → Within input' r
     → viewOf input' store' r ≡ turned sheet (viewOf input' store s') (chunkOf input' s') → length line' ≡ 128 → length store' ≡ length store → length links' ≡ length links
-    → Running check sheet index input₀ store₀ links₀ input' store' links' line' r (left - 1)
+    → Running check sheet index notes input₀ store₀ links₀ input' store' links' line' r (left - 1)
 running-on w going some f same prepared within view-is size same-store same-links =
     record {
       prepared = prepared;

@@ -13,7 +13,7 @@ use Rattle.sheets.specs.Scan.{Checks}
 use Rattle.sheets.specs.declared.SheetCheck.{SheetCheck}
 use Rattle.sheets.specs.declared.SheetCheck.the-variants.{Accepted}
 use Rattle.calls.specs.Answers.{answerOf}
-use Rattle.calls.specs.Prepared.{PreparedStore}
+use Rattle.calls.specs.Prepared.{NotedSheet, PreparedStore}
 use Rattle.stream.specs.declared.Next.{Next}
 use Rattle.stream.specs.declared.Next.the-variants.{Question, Cut, End, More}
 use Rattle.stream.specs.Stream.{front}
@@ -24,16 +24,17 @@ use Rattle.calls.specs.declared.Answer as Declared
 
 -- ---- A question
 
--- The sheet was checked, with this index if it was accepted, and then the store was accepted, with its index.
-pub record Prepared (check : SheetCheck) (sheet index store : List ℕ) (kept : ℕ) (links : List ℕ) : Type 0 where
+-- The sheet was checked, with this index and these notes if it was accepted, and then the store was accepted, with its index.
+pub record Prepared (check : SheetCheck) (sheet index notes store : List ℕ) (kept : ℕ) (links : List ℕ) : Type 0 where
   pub checked : Checks sheet check index
+  pub noted : (attributes nodes : ℕ) → check ≡ Accepted attributes nodes → NotedSheet sheet index notes
   pub store-ready : (attributes nodes : ℕ) → check ≡ Accepted attributes nodes → PreparedStore sheet store kept links
 
 -- What a question brings, with the budget of 1,000,000, and what it leaves for the next one.
-pub record Put (check : SheetCheck) (sheet index question store : List ℕ) (kept : ℕ) (left links : List ℕ) (r : Declared.Answer) : Type 0 where
+pub record Put (check : SheetCheck) (sheet index notes question store : List ℕ) (kept : ℕ) (left links : List ℕ) (r : Declared.Answer) : Type 0 where
   pub answer : answerOf r ≡ ask sheet (lent store kept) (asks question) .answer
   pub store-is : left ≡ ask sheet (lent store kept) (asks question) .store
-  pub prepared : Prepared check sheet index left (answerOf r .kept) links
+  pub prepared : Prepared check sheet index notes left (answerOf r .kept) links
 
 -- what a question leaves of what it is lent
 unfoldable pub after : List ℕ → Lent → List ℕ → Lent

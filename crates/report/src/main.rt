@@ -89,21 +89,23 @@ fn kept_of(answer: Answer) -> usize
 fn ask<'a>(
     check: SheetCheck,
     sheet: &'a [u8],
-    index: &[u32],
+    index: &[u16],
+    notes: &[u8],
     question: &'a [u8],
     store: &mut [u8],
     kept: usize,
     links: &mut [u16],
     memory: &mut [u64; RUN_SIZE],
 ) -> Answer
-    requires { ⌜ Prepared check (now sheet) (now index) (now store) kept (now links) ⌝ }
-    ensures { λ r. ⌜ Put check (now (sheet .entry)) (now (index .entry)) (now (question .entry)) (now (store .entry)) kept (now (store .exit)) (now (links .exit)) r ⌝ }
+    requires { ⌜ Prepared check (now sheet) (now index) (now notes) (now store) kept (now links) ⌝ }
+    ensures { λ r. ⌜ Put check (now (sheet .entry)) (now (index .entry)) (now (notes .entry)) (now (question .entry)) (now (store .entry)) kept (now (store .exit)) (now (links .exit)) r ⌝ }
 {
     match check {
         SheetCheck::Refused(number, place) => calls::refuse(number, place, kept),
         SheetCheck::Accepted(_, _) => calls::ask_checked(
             sheet,
             index,
+            notes,
             question,
             store,
             kept,
@@ -118,7 +120,8 @@ fn ask<'a>(
 fn answer<'a>(
     check: SheetCheck,
     sheet: &'a [u8],
-    index: &[u32],
+    index: &[u16],
+    notes: &[u8],
     question: &'a [u8],
     store: &mut [u8],
     kept: usize,
@@ -126,13 +129,23 @@ fn answer<'a>(
     memory: &mut [u64; RUN_SIZE],
     line: &mut [u8; 128],
 ) -> Answered
-    requires { ⌜ Prepared check (now sheet) (now index) (now store) kept (now links) ⌝ }
+    requires { ⌜ Prepared check (now sheet) (now index) (now notes) (now store) kept (now links) ⌝ }
     requires { ⌜ length (now line) ≡ 128 ⌝ }
-    ensures { λ r. ⌜ Prepared check (now (sheet .entry)) (now (index .entry)) (now (store .exit)) (r .kept) (now (links .exit)) ⌝ }
+    ensures { λ r. ⌜ Prepared check (now (sheet .entry)) (now (index .entry)) (now (notes .entry)) (now (store .exit)) (r .kept) (now (links .exit)) ⌝ }
     ensures { λ r. ⌜ lent (now (store .exit)) (r .kept) ≡ after (now (sheet .entry)) (lent (now (store .entry)) kept) (now (question .entry)) ⌝ }
     ensures { λ r. ⌜ Line (now (line .exit)) (r .line) (lineOf (called (now (sheet .entry)) (lent (now (store .entry)) kept) (asks (now (question .entry))) .answer)) ⌝ }
 {
-    let brought = ask(check, sheet, index, question, store, kept, links, memory);
+    let brought = ask(
+        check,
+        sheet,
+        index,
+        notes,
+        question,
+        store,
+        kept,
+        links,
+        memory,
+    );
     Answered {
         kept: kept_of(brought),
         line: line_of(brought, line),
@@ -169,7 +182,8 @@ fn fetch(input: &mut [u8], s: State) -> State
 fn turn<'a>(
     check: SheetCheck,
     sheet: &'a [u8],
-    index: &[u32],
+    index: &[u16],
+    notes: &[u8],
     input: &'a [u8],
     store: &mut [u8],
     links: &mut [u16],
@@ -177,10 +191,10 @@ fn turn<'a>(
     line: &mut [u8; 128],
     s: State,
 ) -> State
-    requires { ⌜ Prepared check (now sheet) (now index) (now store) (s .kept) (now links) ⌝ }
+    requires { ⌜ Prepared check (now sheet) (now index) (now notes) (now store) (s .kept) (now links) ⌝ }
     requires { ⌜ Within (now input) s ⌝ }
     requires { ⌜ length (now line) ≡ 128 ⌝ }
-    ensures { λ r. ⌜ Prepared check (now (sheet .entry)) (now (index .entry)) (now (store .exit)) (r .kept) (now (links .exit)) ⌝ }
+    ensures { λ r. ⌜ Prepared check (now (sheet .entry)) (now (index .entry)) (now (notes .entry)) (now (store .exit)) (r .kept) (now (links .exit)) ⌝ }
     ensures { λ r. ⌜ Within (now (input .entry)) r ⌝ }
     ensures { λ r. ⌜ viewOf (now (input .entry)) (now (store .exit)) r
         ≡ turned (now (sheet .entry)) (viewOf (now (input .entry)) (now (store .entry)) s) (chunkOf (now (input .entry)) s) ⌝ }
@@ -200,6 +214,7 @@ fn turn<'a>(
                 check,
                 sheet,
                 index,
+                notes,
                 &input[at..end],
                 store,
                 kept,
@@ -222,6 +237,7 @@ fn turn<'a>(
                 check,
                 sheet,
                 index,
+                notes,
                 &input[..0],
                 store,
                 kept,
@@ -265,13 +281,14 @@ fn turn<'a>(
 fn run(
     check: SheetCheck,
     sheet: &[u8],
-    index: &[u32],
+    index: &[u16],
+    notes: &[u8],
     input: &mut [u8],
     store: &mut [u8],
     links: &mut [u16],
     memory: &mut [u64; RUN_SIZE],
 ) -> Ending
-    requires { ⌜ Prepared check (now sheet) (now index) (now store) 0 (now links) ⌝ }
+    requires { ⌜ Prepared check (now sheet) (now index) (now notes) (now store) 0 (now links) ⌝ }
     requires { ⌜ lent (now store) 0 ≡ empty entryLimit ⌝ }
     requires { ⌜ 65537 ≤ length (now input) ⌝ }
     ensures { λ r. ⌜ Ran (now (sheet .entry)) (viewOf (now (input .exit)) (now (store .exit)) (r .state)) (r .left) (r .written) ⌝ }
@@ -293,6 +310,7 @@ fn run(
             check,
             sheet,
             index,
+            notes,
             input,
             store,
             links,
@@ -320,14 +338,15 @@ fn run(
 // The sheet is checked, and where it is accepted the empty store is indexed.
 fn prepare(
     sheet: &[u8],
-    index: &mut [u32; INDEX_SIZE],
+    index: &mut [u16; INDEX_SIZE],
+    notes: &mut [u8; SHEET_LIMIT],
     store: &[u8],
     links: &mut [u16],
 ) -> SheetCheck
     requires { ⌜ (length (now store) ≡ storeLimit) × (length (now links) ≡ linksSize) ⌝ }
-    ensures { λ r. ⌜ Prepared r (now (sheet .entry)) (now (index .exit)) (now (store .entry)) 0 (now (links .exit)) ⌝ }
+    ensures { λ r. ⌜ Prepared r (now (sheet .entry)) (now (index .exit)) (now (notes .exit)) (now (store .entry)) 0 (now (links .exit)) ⌝ }
 {
-    match sheets::check(sheet, index) {
+    match sheets::check(sheet, index, notes) {
         SheetCheck::Refused(number, place) => SheetCheck::Refused(number, place),
         SheetCheck::Accepted(attributes, nodes) => {
             stores::check(sheet, attributes, nodes, store, 0, links);
@@ -336,17 +355,18 @@ fn prepare(
     }
 }
 
-// All questions are put to one store of 1,024 entries, which is empty at first. `index` has room for the sheet's.
-fn answer_all(sheet: &[u8], index: &mut [u32; INDEX_SIZE]) {
+// All questions are put to one store of 1,024 entries, which is empty at first. `index` has room for the sheet's, and `notes` for what is noted of it.
+fn answer_all(sheet: &[u8], index: &mut [u16; INDEX_SIZE], notes: &mut [u8; SHEET_LIMIT]) {
     let mut store = [0u8; STORE_LIMIT];
     let mut links = [0u16; LINKS_SIZE];
-    let check = prepare(sheet, index, &store, &mut links);
+    let check = prepare(sheet, index, notes, &store, &mut links);
     let mut input = [0u8; 131072];
     let mut memory = [0u64; RUN_SIZE];
     run(
         check,
         sheet,
         index,
+        notes,
         &mut input,
         &mut store,
         &mut links,
@@ -357,6 +377,7 @@ fn answer_all(sheet: &[u8], index: &mut [u32; INDEX_SIZE]) {
 fn main() {
     let mut sheet = [0u8; SHEET_LIMIT + 1];
     let n = system::read_sheet(&mut sheet);
-    let mut index = [0u32; INDEX_SIZE];
-    answer_all(&sheet[..n], &mut index);
+    let mut index = [0u16; INDEX_SIZE];
+    let mut notes = [0u8; SHEET_LIMIT];
+    answer_all(&sheet[..n], &mut index, &mut notes);
 }

@@ -16,7 +16,7 @@ use Rattle.engine.specs.Decode.{wordsIn}
 use Rattle.engine.specs.Steps.{Memory, Stepped, goes, writeWord, turned, answered, takeIf, within, closeForm, attributeDue, give}
 use Rattle.engine.specs.Represents.{PacksIn}
 use Rattle.engine.specs.Ready.{memoryOf, Rewrites, Passes, skipped}
-use Rattle.engine.proofs.Widths.{width-of}
+use Rattle.expressions.proofs.Widths.{width-of}
 use Rattle.engine.proofs.RunMemory.{frame-at}
 use Rattle.engine.specs.declared.Step.{Step}
 use Rattle.engine.specs.declared.Step.the-variants.{Goes, Waits, Finishes, Stops}
@@ -41,8 +41,8 @@ unfolding takeIf
 if-keeps skip mem m true = refl
 if-keeps skip mem m false = refl
 
-module _ (sheet index question store links run : List ℕ) (budget limit : ℕ) (m : Registers) (k : ℕ)
-    (given : Given sheet index question store links run budget limit m k) where
+module _ (sheet index notes question store links run : List ℕ) (budget limit : ℕ) (m : Registers) (k : ℕ)
+    (given : Given sheet index notes question store links run budget limit m k) where
   -- the innermost frame's word
   abbrev w : ℕ
   w = getD run (m .frames - 1) 0

@@ -17,16 +17,16 @@ use Rattle.sheets.specs.Scan.{indexed}
 use Rattle.stores.specs.Keys.{keyOf}
 use Rattle.stores.proofs.ByKey.{kept-word}
 use Rattle.engine.specs.RunningPiece.{pieceIn, restOf}
-use Rattle.expressions.specs.Widths.{Starts}
 use Rattle.values.specs.Packed.{valueIn}
 use Rattle.engine.specs.declared.Registers.{Registers}
 use Rattle.engine.specs.FrameWords.{kindOf, ifKind, skipKind, parameterKind, formKind, heldAttribute, heldNode}
 use Rattle.engine.specs.Decode.{frameLimit, sheetOf, wordsIn}
 use Rattle.engine.specs.Represents.{Represents}
-use Rattle.engine.specs.Ready.{memoryOf, FrameReady}
+use Rattle.engine.specs.Ready.{memoryOf, FrameReady, PassReady}
 use Rattle.engine.proofs.Kept.{by-key}
 use Rattle.engine.proofs.RunMemory.{frame-at}
 use Rattle.engine.proofs.ReadyForCode.{rest-reaches, frames-inside, frame-ready, parameter-ready, if-starts, skip-starts}
+use Rattle.engine.proofs.Tracking.{pass-ready}
 use Rattle.engine.proofs.Attributes.{form-counted, due-in, attribute-is, definition-at}
 use Rattle.attributes.specs.Due.{WriteReady, CloseReady, AttributeReady}
 use Rattle.runs.specs.Moves.{MoveReady}
@@ -37,8 +37,8 @@ unfolding pieceIn
 piece-short sheet question zero a b = omega arith
 piece-short sheet question (suc k) a b = a
 
-module _ {sheet index question : List ℕ} {store links run : List ℕ} {m : Registers}
-    (ready : MoveReady sheet index question store links run m) where
+module _ {sheet index notes question : List ℕ} {store links run : List ℕ} {m : Registers}
+    (ready : MoveReady sheet index notes question store links run m) where
   abbrev s : Sheet
   s = sheetOf sheet
 
@@ -55,8 +55,8 @@ module _ {sheet index question : List ℕ} {store links run : List ℕ} {m : Reg
   top-inside framed = omega (arith, frames-inside run r)
 
 -- A value is given to the innermost frame, of kind `k`.
-pub record Given (sheet index question store links run : List ℕ) (budget limit : ℕ) (m : Registers) (k : ℕ) : Type 0 where
-  pub ready : MoveReady sheet index question store links run m
+pub record Given (sheet index notes question store links run : List ℕ) (budget limit : ℕ) (m : Registers) (k : ℕ) : Type 0 where
+  pub ready : MoveReady sheet index notes question store links run m
   pub gives : m .returning ≡ true
   pub some : 0 < m .frames
   pub permitted : budget ≤ budgetLimit
@@ -75,8 +75,8 @@ late-kind {k} rest =
     let no-node : k ≡ 4 → ⊥ = rest .0 .1 in
     omega arith
 
-module _ (sheet index question store links run : List ℕ) (budget limit : ℕ) (m : Registers) (k : ℕ)
-    (given : Given sheet index question store links run budget limit m k) where
+module _ (sheet index notes question store links run : List ℕ) (budget limit : ℕ) (m : Registers) (k : ℕ)
+    (given : Given sheet index notes question store links run budget limit m k) where
   abbrev rep : Represents sheet index question (memoryOf store run) m
   rep = given .ready .represents
 
@@ -96,11 +96,11 @@ module _ (sheet index question store links run : List ℕ) (budget limit : ℕ) 
   framed = frame-ready run rep (given .some)
 
   module _ (e : List ℕ) (rest : e ≡ restOf sheet question (m .forms) (m .at) (m .end)) where
-    pub if-ready : k ≡ ifKind → Starts e
-    if-ready key = rw rest (if-starts rep (given .gives) (given .some) (of-kind ifKind key))
+    pub if-ready : k ≡ ifKind → PassReady notes e m
+    if-ready key = rw rest (pass-ready rep (given .ready .tracks) (if-starts rep (given .gives) (given .some) (of-kind ifKind key)))
 
-    pub skip-ready : k ≡ skipKind → Starts e
-    skip-ready key = rw rest (skip-starts rep (given .gives) (given .some) (of-kind skipKind key))
+    pub skip-ready : k ≡ skipKind → PassReady notes e m
+    skip-ready key = rw rest (pass-ready rep (given .ready .tracks) (skip-starts rep (given .gives) (given .some) (of-kind skipKind key)))
 
     pub reaches : m .at + length e < 2 ^ 64
     reaches = rw rest (omega (arith, rest-reaches run rep, end-short (given .ready)))

@@ -13,6 +13,7 @@ use Rattle.engine.specs.Ready.{memoryOf}
 use Rattle.engine.specs.Loop.{Invariant}
 use Rattle.engine.proofs.Loop.{invariant-on, invariant-falls, invariant-waits, invariant-finishes, invariant-stops}
 use Rattle.engine.specs.Cost.{measure}
+use Rattle.engine.proofs.Tracking.{tracks-on}
 use Rattle.engine.specs.declared.Step.{Step}
 use Rattle.engine.specs.declared.Step.the-variants.{Goes, Waits, Finishes, Stops}
 use Rattle.engine.specs.CodeSteps.{steppedOf, keptAfter}
@@ -20,10 +21,10 @@ use Rattle.runs.specs.declared.RunEnd.the-variants as End
 use Rattle.runs.proofs.Counting.{counts-on}
 use Rattle.runs.specs.Moves.{StepsTo, Running, RunsTo}
 
-module _ (sheet index question : List ℕ) (budget limit : ℕ) where
+module _ (sheet index notes question : List ℕ) (budget limit : ℕ) where
   -- registers and memory, and those that the run began with
   pub record Round (store₀ links₀ run₀ : List ℕ) (first : Registers) (store links run : List ℕ) (m : Registers) : Type 0 where
-    pub running : Running sheet index question budget store links run m
+    pub running : Running sheet index notes question budget store links run m
     pub on : (lent : List ℕ) (kept : ℕ) (whole : Ended) → Invariant sheet index question budget lent kept whole (memoryOf store₀ run₀) first
         → Invariant sheet index question budget lent kept whole (memoryOf store run) m
     pub counted : first .steps ≤ limit → m .steps ≤ limit
@@ -31,7 +32,7 @@ module _ (sheet index question : List ℕ) (budget limit : ℕ) where
     pub links-size : length links ≡ length links₀
     pub run-size : length run ≡ length run₀
 
-  pub first-round : {store links run : List ℕ} {m : Registers} → Running sheet index question budget store links run m
+  pub first-round : {store links run : List ℕ} {m : Registers} → Running sheet index notes question budget store links run m
       → Round store links run m store links run m
   first-round running =
       record { running = running; on = λ lent kept whole i. i; counted = λ h. h; store-size = refl; links-size = refl; run-size = refl }
@@ -84,6 +85,8 @@ module _ (sheet index question : List ℕ) (budget limit : ℕ) where
                 kept = round .running .kept;
                 whole = round .running .whole;
                 invariant = next _ _ _ (round .running .invariant);
+                tracks =
+                    tracks-on (round .running .invariant .represents) (round .running .tracks) budget limit (steps .skip) (steps .packed) (steps .width) goes-to;
                 permitted = round .running .permitted;
                 linked = rw is at (steps .linked);
                 short = round .running .short;
@@ -100,20 +103,20 @@ module _ (sheet index question : List ℕ) (budget limit : ℕ) where
         now-holds : Invariant sheet index question budget lent kept whole mem m
         now-holds = round .on lent kept whole i
 
-        pub round-pauses : r ≡ Waits → RunsTo sheet index question budget limit lent kept whole (first .steps) mem′ (End.Pauses m)
+        pub round-pauses : r ≡ Waits → RunsTo sheet index notes question budget limit lent kept whole (first .steps) mem′ (End.Pauses m)
         unfolding steppedOf
         round-pauses is =
             let same : mem′ ≡ mem = rw is at (steps .still) in
             let (reached, left) = invariant-waits now-holds limit (steps .skip) (steps .packed) (steps .width) (steps .packs) (came is) in
-            (rw same now-holds, reached, left, λ h. let below = round .counted h in omega arith)
+            (rw same now-holds, rw same (round .running .tracks), reached, left, λ h. let below = round .counted h in omega arith)
 
-        pub round-finishes : r ≡ Finishes → RunsTo sheet index question budget limit lent kept whole (first .steps) mem′ (End.Finishes m)
+        pub round-finishes : r ≡ Finishes → RunsTo sheet index notes question budget limit lent kept whole (first .steps) mem′ (End.Finishes m)
         unfolding steppedOf
         round-finishes is =
             let same : mem′ ≡ mem = rw is at (steps .still) in
             rw same (invariant-finishes now-holds limit (steps .skip) (steps .packed) (steps .width) (steps .packs) (came is))
 
-        pub round-stops : {number : ℕ} → r ≡ Stops number → RunsTo sheet index question budget limit lent kept whole (first .steps) mem′ (End.Stops number m)
+        pub round-stops : {number : ℕ} → r ≡ Stops number → RunsTo sheet index notes question budget limit lent kept whole (first .steps) mem′ (End.Stops number m)
         unfolding steppedOf
         round-stops is =
             let same : mem′ ≡ mem = rw is at (steps .still) in

@@ -12,7 +12,7 @@ use Rattle.engine.specs.RunningPiece.{restOf}
 use Rattle.engine.specs.declared.Registers.{Registers}
 use Rattle.engine.specs.Steps.{Memory, goes, readHead, readNext, stepOf}
 use Rattle.engine.specs.Ready.{memoryOf, ReadReady}
-use Rattle.engine.proofs.Widths.{width-of}
+use Rattle.expressions.proofs.Widths.{width-of}
 use Rattle.engine.proofs.RunMemory.{frame-at}
 use Rattle.engine.proofs.ReadyForCode.{read-ready, frames-inside}
 use Rattle.engine.specs.declared.Step.{Step}
@@ -45,12 +45,12 @@ reading-keeps sheet index mem m [] = refl
 reading-keeps sheet index mem m (c ∷ l) = head-keeps sheet mem m (headOf c) l
 
 -- A move is due.
-pub record MoveDue (sheet index question store links run : List ℕ) (budget limit : ℕ) (m : Registers) : Type 0 where
-  pub ready : MoveReady sheet index question store links run m
+pub record MoveDue (sheet index notes question store links run : List ℕ) (budget limit : ℕ) (m : Registers) : Type 0 where
+  pub ready : MoveReady sheet index notes question store links run m
   pub permitted : budget ≤ budgetLimit
 
-module _ (sheet index question store links run : List ℕ) (budget limit : ℕ) (m : Registers)
-    (due : MoveDue sheet index question store links run budget limit m) where
+module _ (sheet index notes question store links run : List ℕ) (budget limit : ℕ) (m : Registers)
+    (due : MoveDue sheet index notes question store links run budget limit m) where
   abbrev mem : Memory
   mem = memoryOf store run
 

@@ -7,13 +7,15 @@ use lib.ListN.{length}
 use Rattle.saiga.specs.Limits.{expressionLimit, budgetLimit}
 use Rattle.saiga.specs.Caching.{with-value, Reason, by, Ended}
 use Rattle.saiga.specs.Ask.{reasonNumber}
+use Rattle.expressions.specs.Noted.{WidthOf}
 use Rattle.engine.specs.RunningPiece.{restOf}
 use Rattle.stores.specs.Keys.{Linked}
 use Rattle.engine.specs.declared.Registers.{Registers}
 use Rattle.engine.specs.Steps.{Memory, give, stepOf}
-use Rattle.engine.specs.Represents.{Represents, WidthOf, PacksIn}
+use Rattle.engine.specs.Represents.{Represents, PacksIn}
 use Rattle.engine.specs.Ready.{memoryOf}
 use Rattle.engine.specs.Loop.{Invariant, Final}
+use Rattle.engine.specs.Tracks.{Tracks}
 use Rattle.engine.specs.declared.Step.{Step}
 use Rattle.engine.specs.declared.Step.the-variants.{Goes}
 use Rattle.engine.specs.CodeSteps.{steppedOf, keptAfter, Still}
@@ -22,9 +24,10 @@ use Rattle.runs.specs.declared.RunEnd.the-variants.{Pauses, Finishes, St
 
 -- ---- A move
 
--- Registers and memory hold a machine, the store is indexed, and the question is of its length.
-pub record MoveReady (sheet index question : List ℕ) (store links run : List ℕ) (m : Registers) : Type 0 where
+-- Registers and memory hold a machine that stands on what is noted of the sheet, the store is indexed, and the question is of its length.
+pub record MoveReady (sheet index notes question : List ℕ) (store links run : List ℕ) (m : Registers) : Type 0 where
   pub represents : Represents sheet index question (memoryOf store run) m
+  pub tracks : Tracks sheet index notes (memoryOf store run) m
   pub linked : Linked store (m .kept) links
   pub short : length question ≤ expressionLimit
 
@@ -53,11 +56,12 @@ module _ (sheet index question : List ℕ) (budget limit : ℕ) (mem mem′ : Me
 -- ---- A run
 
 -- A run is under way: what holds from move to move holds, of some call.
-pub record Running (sheet index question : List ℕ) (budget : ℕ) (store links run : List ℕ) (m : Registers) : Type 0 where
+pub record Running (sheet index notes question : List ℕ) (budget : ℕ) (store links run : List ℕ) (m : Registers) : Type 0 where
   pub lent : List ℕ
   pub kept : ℕ
   pub whole : Ended
   pub invariant : Invariant sheet index question budget lent kept whole (memoryOf store run) m
+  pub tracks : Tracks sheet index notes (memoryOf store run) m
   pub permitted : budget ≤ budgetLimit
   pub linked : Linked store (m .kept) links
   pub short : length question ≤ expressionLimit
@@ -76,9 +80,10 @@ keptBy (Stops number m) = m .kept
 
 -- A run that ends so, of a call that was lent these bytes with so many kept entries, leaves off: paused with a counted step due, at the limit
 -- unless it was past it at first; with its value; or with the number of its reason.
-module _ (sheet index question : List ℕ) (budget limit : ℕ) (lent : List ℕ) (kept : ℕ) (whole : Ended) (first : ℕ) (mem : Memory) where
+module _ (sheet index notes question : List ℕ) (budget limit : ℕ) (lent : List ℕ) (kept : ℕ) (whole : Ended) (first : ℕ) (mem : Memory) where
   abbrev pub RunsTo : RunEnd → Type 0
   RunsTo (Pauses m) =
-      Invariant sheet index question budget lent kept whole mem m × (limit ≤ m .steps) × (m .steps < budget) × (first ≤ limit → m .steps ≡ limit)
+      Invariant sheet index question budget lent kept whole mem m × Tracks sheet index notes mem m × (limit ≤ m .steps) × (m .steps < budget)
+      × (first ≤ limit → m .steps ≡ limit)
   RunsTo (Finishes m) = Final lent kept whole (with-value (m .value)) mem m
   RunsTo (Stops number m) = (reason : Reason) × (reasonNumber reason ≡ number) × Final lent kept whole (by reason) mem m

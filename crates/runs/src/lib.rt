@@ -17,10 +17,9 @@ ghost use Rattle.saiga.specs.Limits.{budgetLimit};
 ghost use Rattle.saiga.specs.Values.{truth, apply as applied};
 ghost use Rattle.saiga.specs.Caching.{Ended};
 ghost use Rattle.values.specs.Packed.{valueIn};
-ghost use Rattle.expressions.specs.Widths.{Starts};
 ghost use Rattle.stores.specs.Keys.{Linked};
 ghost use Rattle.engine.specs.Steps.{Memory, goes, answered as answeredBy, takeIf, within};
-ghost use Rattle.engine.specs.Ready.{memoryOf, FrameReady, Passes};
+ghost use Rattle.engine.specs.Ready.{memoryOf, FrameReady, PassReady, Passes};
 ghost use Rattle.engine.specs.Loop.{Invariant};
 ghost use Rattle.engine.specs.CodeSteps.{steppedOf, keptAfter, Still};
 ghost use Rattle.engine.specs.FrameWords.{heldFunction};
@@ -34,8 +33,8 @@ pub enum RunEnd {
 }
 
 // IF has its condition: the limits of a counted step, then the step. `e` is the rest of the running piece.
-fn give_if(e: &[u8], memory: &mut [u64], limits: Limits, m: Registers) -> Step
-    requires { ⌜ Starts (now e) ⌝ }
+fn give_if(notes: &[u8], e: &[u8], memory: &mut [u64], limits: Limits, m: Registers) -> Step
+    requires { ⌜ PassReady (now notes) (now e) m ⌝ }
     requires { ⌜ FrameReady (now memory) m × (m .at + length (now e) < 2 ^ 64) ⌝ }
     ensures { λ r. ⌜ Passes (now (e .entry)) (λ skip. (store : List ℕ)
         → steppedOf r (memoryOf store (now (memory .exit)))
@@ -48,7 +47,7 @@ fn give_if(e: &[u8], memory: &mut [u64], limits: Limits, m: Registers) -> Step
     if limits.pause <= m.steps {
         return Step::Waits;
     }
-    Step::Goes(engine::take_if(e, memory, m))
+    Step::Goes(engine::take_if(notes, e, memory, m))
 }
 
 // An application has its argument: the limits of a counted step, then the step, with the function that the frame's word holds.
@@ -69,7 +68,8 @@ fn give_right(limits: Limits, m: Registers, w: u64) -> Step
 // A value is given to the innermost frame.
 fn give<'a>(
     sheet: &'a [u8],
-    index: &[u32],
+    index: &[u16],
+    notes: &[u8],
     question: &'a [u8],
     store: &mut [u8],
     links: &mut [u16],
@@ -77,7 +77,7 @@ fn give<'a>(
     limits: Limits,
     m: Registers,
 ) -> Step
-    requires { ⌜ MoveReady (now sheet) (now index) (now question) (now store) (now links) (now memory) m ⌝ }
+    requires { ⌜ MoveReady (now sheet) (now index) (now notes) (now question) (now store) (now links) (now memory) m ⌝ }
     requires { ⌜ (m .returning ≡ true) × (0 < m .frames) × (limits .budget ≤ budgetLimit) ⌝ }
     ensures { λ r. ⌜ GivesTo (now (sheet .entry)) (now (index .entry)) (now (question .entry)) (limits .budget) (limits .pause)
         (memoryOf (now (store .entry)) (now (memory .entry))) (memoryOf (now (store .exit)) (now (memory .exit))) (now (links .exit)) m
@@ -89,12 +89,12 @@ fn give<'a>(
     match kind {
         ON_IF => {
             let e = engine::running(sheet, question, m.forms, m.at, m.end);
-            give_if(e, memory, limits, m)
+            give_if(notes, e, memory, limits, m)
         }
         ON_LEFT => Step::Goes(engine::take_left(memory, m)),
         ON_SKIP => {
             let e = engine::running(sheet, question, m.forms, m.at, m.end);
-            Step::Goes(engine::take_skip(e, m))
+            Step::Goes(engine::take_skip(notes, e, m))
         }
         ON_RIGHT => give_right(limits, m, w),
         ON_NODE => Step::Goes(engine::take_node(memory, m, engine::frames::attribute(w))),
@@ -106,7 +106,8 @@ fn give<'a>(
 // One move: a head is read, the value is the run's, or it is given to the innermost frame.
 pub fn step<'a>(
     sheet: &'a [u8],
-    index: &[u32],
+    index: &[u16],
+    notes: &[u8],
     question: &'a [u8],
     store: &mut [u8],
     links: &mut [u16],
@@ -114,7 +115,7 @@ pub fn step<'a>(
     limits: Limits,
     m: Registers,
 ) -> Step
-    requires { ⌜ MoveReady (now sheet) (now index) (now question) (now store) (now links) (now memory) m × (limits .budget ≤ budgetLimit) ⌝ }
+    requires { ⌜ MoveReady (now sheet) (now index) (now notes) (now question) (now store) (now links) (now memory) m × (limits .budget ≤ budgetLimit) ⌝ }
     ensures { λ r. ⌜ StepsTo (now (sheet .entry)) (now (index .entry)) (now (question .entry)) (limits .budget) (limits .pause)
         (memoryOf (now (store .entry)) (now (memory .entry))) (memoryOf (now (store .exit)) (now (memory .exit))) (now (links .exit)) m r ⌝ }
 {
@@ -125,13 +126,24 @@ pub fn step<'a>(
     if m.frames == 0 {
         return Step::Finishes;
     }
-    give(sheet, index, question, store, links, memory, limits, m)
+    give(
+        sheet,
+        index,
+        notes,
+        question,
+        store,
+        links,
+        memory,
+        limits,
+        m,
+    )
 }
 
 // The run from the registers `first`. A run that pauses goes on from its registers, with another limit, as if it had not paused.
 pub fn run<'a>(
     sheet: &'a [u8],
-    index: &[u32],
+    index: &[u16],
+    notes: &[u8],
     question: &'a [u8],
     store: &mut [u8],
     links: &mut [u16],
@@ -139,17 +151,27 @@ pub fn run<'a>(
     limits: Limits,
     first: Registers,
 ) -> RunEnd
-    requires { ⌜ Running (now sheet) (now index) (now question) (limits .budget) (now store) (now links) (now memory) first ⌝ }
+    requires { ⌜ Running (now sheet) (now index) (now notes) (now question) (limits .budget) (now store) (now links) (now memory) first ⌝ }
     ensures { λ r. ⌜ ((lent : List ℕ) (kept : ℕ) (whole : Ended)
         → Invariant (now (sheet .entry)) (now (index .entry)) (now (question .entry)) (limits .budget) lent kept whole
         (memoryOf (now (store .entry)) (now (memory .entry))) first
-        → RunsTo (now (sheet .entry)) (now (index .entry)) (now (question .entry)) (limits .budget) (limits .pause) lent kept whole (first .steps)
+        → RunsTo (now (sheet .entry)) (now (index .entry)) (now (notes .entry)) (now (question .entry)) (limits .budget) (limits .pause) lent kept whole (first .steps)
         (memoryOf (now (store .exit)) (now (memory .exit))) r) ⌝ }
     ensures { λ r. ⌜ Linked (now (store .exit)) (keptBy r) (now (links .exit)) ⌝ }
 {
     let mut m = first;
     loop {
-        match step(sheet, index, question, store, links, memory, limits, m) {
+        match step(
+            sheet,
+            index,
+            notes,
+            question,
+            store,
+            links,
+            memory,
+            limits,
+            m,
+        ) {
             Step::Goes(next) => {
                 m = next;
             }

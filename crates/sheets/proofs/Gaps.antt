@@ -37,8 +37,8 @@ module _ (bytes index : List ℕ) (attributes n : ℕ) where
     pub to-end : a + left ≡ attributes
     pub rest : missingAt bytes index attributes left n a ≡ missingAt bytes index attributes attributes n 0
 
-  pub node-start : (k byte : ℕ) → k ≡ byte → byte ≡ kindAt bytes attributes n → RestOfNode k 0
-  node-start k byte wide kind = record { kind = wide ∙ kind; left = attributes; to-end = omega arith; rest = refl }
+  pub node-start : (k : ℕ) → k ≡ kindAt bytes attributes n → RestOfNode k 0
+  node-start k kind = record { kind = kind; left = attributes; to-end = omega arith; rest = refl }
 
   module _ (k a : ℕ) (h : RestOfNode k a) where
     pub node-done : attributes ≤ a → none ≡ missingAt bytes index attributes attributes n 0

@@ -85,7 +85,7 @@ module _ (index : List ℕ) (i j at : ℕ) (fits : i < length index) where
       go true e = let q = eqb-true i j e in rw (← q, getD-set-same index i (at + 1) 0 fits, add-one at) (ap some (same q))
       go false e = rw (getD-set-other index i j (at + 1) 0 (λ q. eqb-false i j e (sym q))) other
 
-  stored-fits : (P : ℕ → Type 0) (b : ℕ) → (i ≡ j → P at) → (getD index j 0 ≡ suc b → P b) → getD (set index i (at + 1)) j 0 ≡ suc b → P b
+  pub stored-fits : (P : ℕ → Type 0) (b : ℕ) → (i ≡ j → P at) → (getD index j 0 ≡ suc b → P b) → getD (set index i (at + 1)) j 0 ≡ suc b → P b
   stored-fits P b same other = go (eqb i j) refl
     where
       go : (t : Bool) → eqb i j ≡ t → getD (set index i (at + 1)) j 0 ≡ suc b → P b

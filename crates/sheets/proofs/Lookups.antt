@@ -21,15 +21,18 @@ record FigureHere (bytes : List ℕ) (a number : ℕ) : Type 0 where
   pub word : isWord 1024 (baseOf (resultAt bytes a)) (ofBytes (take 4 (drop (number + 3) bytes))) ≡ true
   pub value : some (ofWord (baseOf (resultAt bytes a)) (ofBytes (take 4 (drop (number + 3) bytes)))) ≡ indexed number (figureAt bytes a)
 
-module _ (bytes index : List ℕ) (n a place : ℕ) (here : place ≡ figurePlace n a) where
-  pub no-figure : {A : Type 0} (f : ℕ → A) → getD index place 0 ≡ 0 → none ≡ indexed (getD index (figurePlace n a) 0) f
-  unfolding indexed
-  no-figure f e = rw (← here, e)
+module _ (bytes index : List ℕ) (n a place number : ℕ) (here : place ≡ figurePlace n a) (is : number ≡ getD index place 0) where
+  number-is : getD index (figurePlace n a) 0 ≡ number
+  number-is = rw (is, here)
 
-  module _ (h : IndexedPair bytes index n a) (some-at : getD index place 0 ≡ 0 → ⊥) where
-    figure-here : FigureHere bytes a (getD index place 0)
+  pub no-figure : {A : Type 0} (f : ℕ → A) → number ≡ 0 → none ≡ indexed (getD index (figurePlace n a) 0) f
+  unfolding indexed
+  no-figure f e = rw (number-is, e)
+
+  module _ (h : IndexedPair bytes index n a) (some-at : number ≡ 0 → ⊥) where
+    figure-here : FigureHere bytes a number
     unfolding indexed figureAt
-    figure-here = go (getD index place 0) (ap (λ i. getD index i 0) (sym here)) some-at
+    figure-here = go number number-is some-at
       where
         go : (number : ℕ) → getD index (figurePlace n a) 0 ≡ number → (number ≡ 0 → ⊥) → FigureHere bytes a number
         go zero e some-at = absurd (some-at refl)
@@ -43,18 +46,18 @@ module _ (bytes index : List ℕ) (n a place : ℕ) (here : place ≡ figurePlac
               value = rw same;
             }
 
-    pub figure-fits : getD index place 0 + 3 < 18446744073709551616
+    pub figure-fits : number + 3 < 18446744073709551616
     figure-fits = omega (arith, figure-here)
 
-    pub figure-room : getD index place 0 + 3 + 4 ≤ length bytes
+    pub figure-room : number + 3 + 4 ≤ length bytes
     figure-room = omega (arith, figure-here)
 
-    module _ (code w : ℕ) (typed : code ≡ resultAt bytes a) (word : w ≡ ofBytes (take 4 (drop (getD index place 0 + 3) bytes))) where
+    module _ (code w : ℕ) (typed : code ≡ resultAt bytes a) (word : w ≡ ofBytes (take 4 (drop (number + 3) bytes))) where
       pub figure-word : isWord 1024 (baseOf code) w ≡ true
       figure-word = rw (typed, word) (figure-here .word)
 
       pub figure-value : (v : Value) → v ≡ ofWord (baseOf code) w → some v ≡ indexed (getD index (figurePlace n a) 0) (figureAt bytes a)
-      figure-value v value = rw (← here) (ap some (value ∙ rw (typed, word)) ∙ figure-here .value)
+      figure-value v value = rw number-is (ap some (value ∙ rw (typed, word)) ∙ figure-here .value)
 
 -- ---- A rule
 
@@ -70,9 +73,9 @@ module _ (bytes index : List ℕ) (n a : ℕ) (h : IndexedRule bytes index n a) 
       let i = h .pair .known in
       rw (i .attributes-in, ← kind-by-index bytes (h .pair .sheet) index (i .described) n (h .pair .node)) (i .described .kinds-bound n (h .pair .node))
 
-  module _ (k byte : ℕ) (wide : k ≡ byte) (kind : byte ≡ kindAt bytes (getD index attributesPlace 0) n) where
+  module _ (count k : ℕ) (counted : count ≡ getD index attributesPlace 0) (kind : k ≡ kindAt bytes count n) where
     pub kind-small : k ≤ 15
-    kind-small = rw (wide, kind) kind-bound
+    kind-small = rw (kind, counted) kind-bound
 
     pub rule-within : (place : ℕ) → place ≡ rulePlace k a → place < length index
     rule-within place here =

@@ -93,7 +93,7 @@ reached-start bytes first cleared short size e = record {
 }
 
 module _ (bytes first : List ℕ) (p : Progress) (index : List ℕ) (h : Reached bytes first p index) where
-  reached-size : length index ≡ indexSize
+  pub reached-size : length index ≡ indexSize
   reached-size = h .so-far .known .size
 
   attributes-are : p .attributes ≡ attributeCount (h .sheet)

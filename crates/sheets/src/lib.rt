@@ -1,4 +1,5 @@
-// The check of a sheet, which fills the sheet's index: stops 1 to 8 (document 01, "The sheet" and "Stops by origin").
+// The check of a sheet, which fills the sheet's index and notes the widths of its expressions: stops 1 to 8 (document 01, "The sheet" and "Stops by
+// origin").
 pub mod lookup;
 
 use expressions::Formed;
@@ -16,6 +17,7 @@ ghost use mathlib.Core.List.{List};
 ghost use Prim.Native.Nat.{ℕ, suc, _+_, _-_, _*_, _≤_, _<_};
 ghost use lib.ListN.{length, getD};
 ghost use Rattle.saiga.specs.Limits.{sheetLimit, attributeLimit, nodeLimit, lastKind};
+ghost use Rattle.sheets.specs.Notes.{NotesOn, ChecksNotes};
 ghost use Rattle.sheets.specs.Scan.{figurePlace, rulesAt, rulePlaces, rulePlace, figureAt, pieceAt, indexed, indexSize, clearRow, scanAttribute, scanNode, scanFigure, scanRule, scanEnd, scanCommand, pairIndexed, missingAt, missingFrom, scanned, scanFrom, start, Reading, readOf, ReadAs, Declared, gapOf, scanOf, Checks, IndexedPair, IndexedRule, ruleNumber, figureOf};
 
 // The last kind, as a byte of the sheet.
@@ -65,7 +67,7 @@ fn wide(b: u8) -> usize
 }
 
 // `count` places of the index from `from` on are made empty.
-fn clear(index: &mut [u32], from: usize, count: usize)
+fn clear(index: &mut [u16], from: usize, count: usize)
     requires { ⌜ from + count ≤ length (now index) ⌝ }
     ensures { λ _. ⌜ now (index .exit) ≡ clearRow count from (now (index .entry)) ⌝ }
 {
@@ -105,7 +107,7 @@ fn read_attribute(sheet: &[u8], p: Progress) -> Read
     })
 }
 
-fn read_node(sheet: &[u8], index: &mut [u32], p: Progress) -> Read
+fn read_node(sheet: &[u8], index: &mut [u16], p: Progress) -> Read
     requires { ⌜ Reading (now sheet) p × (length (now index) ≡ indexSize) ⌝ }
     ensures { λ r. ⌜ ReadAs r (now (index .exit)) (now (index .entry)) (scanNode (now (sheet .entry)) p (now (index .entry))) ⌝ }
 {
@@ -131,7 +133,7 @@ fn read_node(sheet: &[u8], index: &mut [u32], p: Progress) -> Read
     })
 }
 
-fn read_figure(sheet: &[u8], index: &mut [u32], p: Progress) -> Read
+fn read_figure(sheet: &[u8], index: &mut [u16], p: Progress) -> Read
     requires { ⌜ Reading (now sheet) p × (length (now index) ≡ indexSize) ⌝ }
     ensures { λ r. ⌜ ReadAs r (now (index .exit)) (now (index .entry)) (scanFigure (now (sheet .entry)) p (now (index .entry))) ⌝ }
 {
@@ -161,7 +163,7 @@ fn read_figure(sheet: &[u8], index: &mut [u32], p: Progress) -> Read
     if index[place] != 0 {
         return Read::Stops(5, 0);
     }
-    index[place] = (at + 1) as u32;
+    index[place] = (at + 1) as u16;
     Read::GoesOn(Progress {
         at: at + 8,
         part: FIGURE_PART,
@@ -170,9 +172,10 @@ fn read_figure(sheet: &[u8], index: &mut [u32], p: Progress) -> Read
     })
 }
 
-fn read_rule(sheet: &[u8], index: &mut [u32], p: Progress) -> Read
-    requires { ⌜ Reading (now sheet) p × (length (now index) ≡ indexSize) ⌝ }
+fn read_rule(sheet: &[u8], index: &mut [u16], notes: &mut [u8], p: Progress) -> Read
+    requires { ⌜ Reading (now sheet) p × (length (now index) ≡ indexSize) × (length (now sheet) ≤ length (now notes)) ⌝ }
     ensures { λ r. ⌜ ReadAs r (now (index .exit)) (now (index .entry)) (scanRule (now (sheet .entry)) p (now (index .entry))) ⌝ }
+    ensures { λ r. ⌜ NotesOn (now (sheet .entry)) p (now (index .entry)) (now (notes .entry)) (now (index .exit)) (now (notes .exit)) r ⌝ }
 {
     let at = p.at;
     let attributes = p.attributes;
@@ -205,14 +208,16 @@ fn read_rule(sheet: &[u8], index: &mut [u32], p: Progress) -> Read
         true,
         values::parameter_at(sheet, a),
         &sheet[start..end],
+        notes,
+        start,
     );
     let Formed::Expression(t) = formed else {
         return Read::Stops(6, 0);
     };
-    if t != expressions::base_number(values::result_at(sheet, a)) {
+    if t != expressions::numbers::base_number(values::result_at(sheet, a)) {
         return Read::Stops(7, 0);
     }
-    index[place] = (at + 1) as u32;
+    index[place] = (at + 1) as u16;
     Read::GoesOn(Progress {
         at: end,
         part: RULE_PART,
@@ -234,9 +239,10 @@ fn read_end(sheet: &[u8], p: Progress) -> Read
 }
 
 // The command at the offset reached.
-fn read_command(sheet: &[u8], index: &mut [u32], p: Progress) -> Read
-    requires { ⌜ Reading (now sheet) p × (length (now index) ≡ indexSize) ⌝ }
+fn read_command(sheet: &[u8], index: &mut [u16], notes: &mut [u8], p: Progress) -> Read
+    requires { ⌜ Reading (now sheet) p × (length (now index) ≡ indexSize) × (length (now sheet) ≤ length (now notes)) ⌝ }
     ensures { λ r. ⌜ ReadAs r (now (index .exit)) (now (index .entry)) (scanCommand (now (sheet .entry)) p (now (index .entry))) ⌝ }
+    ensures { λ r. ⌜ NotesOn (now (sheet .entry)) p (now (index .entry)) (now (notes .entry)) (now (index .exit)) (now (notes .exit)) r ⌝ }
 {
     let at = p.at;
     if sheet.len() <= at {
@@ -247,14 +253,14 @@ fn read_command(sheet: &[u8], index: &mut [u32], p: Progress) -> Read
         0x41 => read_attribute(sheet, p),
         0x4E => read_node(sheet, index, p),
         0x56 => read_figure(sheet, index, p),
-        0x52 => read_rule(sheet, index, p),
+        0x52 => read_rule(sheet, index, notes, p),
         0x5A => read_end(sheet, p),
         _ => Read::Stops(2, 0),
     }
 }
 
 // Whether a node of kind k has a figure or a rule for an attribute.
-fn is_defined(index: &[u32], n: usize, k: usize, a: usize) -> bool
+fn is_defined(index: &[u16], n: usize, k: usize, a: usize) -> bool
     requires { ⌜ (length (now index) ≡ indexSize) × (n < nodeLimit) × (k ≤ lastKind) × (a < attributeLimit) ⌝ }
     ensures { λ r. ⌜ r ≡ pairIndexed (now (index .entry)) n k a ⌝ }
 {
@@ -264,11 +270,11 @@ fn is_defined(index: &[u32], n: usize, k: usize, a: usize) -> bool
     index[lookup::rule_place(k, a)] != 0
 }
 
-fn gap_of_node(sheet: &[u8], index: &[u32], attributes: usize, n: usize) -> Gap
+fn gap_of_node(sheet: &[u8], index: &[u16], attributes: usize, n: usize) -> Gap
     requires { ⌜ Declared (now sheet) (now index) attributes n ⌝ }
     ensures { λ r. ⌜ gapOf r ≡ missingAt (now (sheet .entry)) (now (index .entry)) attributes attributes n 0 ⌝ }
 {
-    let k = wide(values::kind_at(sheet, attributes, n));
+    let k = values::kind_at(sheet, attributes, n) as usize;
     let mut a = 0;
     while a < attributes {
         if !is_defined(index, n, k, a) {
@@ -279,7 +285,7 @@ fn gap_of_node(sheet: &[u8], index: &[u32], attributes: usize, n: usize) -> Gap
     Gap::Nowhere
 }
 
-fn first_gap(sheet: &[u8], index: &[u32], attributes: usize, nodes: usize) -> Gap
+fn first_gap(sheet: &[u8], index: &[u16], attributes: usize, nodes: usize) -> Gap
     requires { ⌜ ((n : ℕ) → n < nodes → Declared (now sheet) (now index) attributes n) ⌝ }
     ensures { λ r. ⌜ gapOf r ≡ missingFrom (now (sheet .entry)) (now (index .entry)) attributes nodes 0 ⌝ }
 {
@@ -295,25 +301,26 @@ fn first_gap(sheet: &[u8], index: &[u32], attributes: usize, nodes: usize) -> Ga
 }
 
 // The pass for missing pairs. The index of a sheet that passes gets the numbers of attributes and nodes.
-fn complete(sheet: &[u8], index: &mut [u32], p: Progress) -> SheetCheck
+fn complete(sheet: &[u8], index: &mut [u16], p: Progress) -> SheetCheck
     requires { ⌜ ((n : ℕ) → n < p .nodes → Declared (now sheet) (now index) (p .attributes) n) ⌝ }
     requires { ⌜ Reading (now sheet) p × (length (now index) ≡ indexSize) ⌝ }
     ensures { λ r. ⌜ scanOf r (now (index .exit))
         ≡ scanned p (now (index .entry)) (missingFrom (now (sheet .entry)) (now (index .entry)) (p .attributes) (p .nodes) 0) ⌝ }
 {
     let Gap::At(place) = first_gap(sheet, index, p.attributes, p.nodes) else {
-        index[ATTRIBUTES_PLACE] = p.attributes as u32;
-        index[NODES_PLACE] = p.nodes as u32;
+        index[ATTRIBUTES_PLACE] = p.attributes as u16;
+        index[NODES_PLACE] = p.nodes as u16;
         return SheetCheck::Accepted(p.attributes, p.nodes);
     };
     SheetCheck::Refused(8, place)
 }
 
 // The commands from the front, then the pass for missing pairs. The rules' part of the index is cleared first.
-fn read_commands(sheet: &[u8], index: &mut [u32]) -> SheetCheck
-    requires { ⌜ (length (now sheet) ≤ sheetLimit) × (length (now index) ≡ indexSize) ⌝ }
+fn read_commands(sheet: &[u8], index: &mut [u16], notes: &mut [u8]) -> SheetCheck
+    requires { ⌜ (length (now sheet) ≤ sheetLimit) × (length (now index) ≡ indexSize) × (length (now sheet) ≤ length (now notes)) ⌝ }
     ensures { λ r. ⌜ scanOf r (now (index .exit))
         ≡ scanFrom (suc (length (now (sheet .entry)))) (now (sheet .entry)) start (clearRow rulePlaces rulesAt (now (index .entry))) ⌝ }
+    ensures { λ r. ⌜ ChecksNotes (now (sheet .entry)) r (now (index .exit)) (now (notes .exit)) ⌝ }
 {
     clear(index, RULES_AT, RULE_PLACES);
     let mut p = Progress {
@@ -323,7 +330,7 @@ fn read_commands(sheet: &[u8], index: &mut [u32]) -> SheetCheck
         nodes: 0,
     };
     loop {
-        match read_command(sheet, index, p) {
+        match read_command(sheet, index, notes, p) {
             Read::Stops(number, offset) => {
                 return SheetCheck::Refused(number, p.at + offset);
             }
@@ -337,13 +344,21 @@ fn read_commands(sheet: &[u8], index: &mut [u32]) -> SheetCheck
     }
 }
 
-// The check of a sheet. It fills the index: at its place each figure and each rule, as the offset of its command and one, or 0.
-pub fn check(sheet: &[u8], index: &mut [u32; INDEX_SIZE]) -> SheetCheck
+// The check of a sheet. It fills the index: at its place each figure and each rule, as the offset of its command and one, or 0. At the place of each
+// byte with which an expression of a rule starts it notes the expression's width less one.
+pub fn check(
+    sheet: &[u8],
+    index: &mut [u16; INDEX_SIZE],
+    notes: &mut [u8; SHEET_LIMIT],
+) -> SheetCheck
     ensures { λ r. ⌜ Checks (now (sheet .entry)) r (now (index .exit)) ⌝ }
+    ensures { λ r. ⌜ ChecksNotes (now (sheet .entry)) r (now (index .exit)) (now (notes .exit)) ⌝ }
+    ensures { λ _. ⌜ length (now (notes .exit)) ≡ sheetLimit ⌝ }
 {
-    let numbers: &mut [u32] = index;
+    let numbers: &mut [u16] = index;
+    let widths: &mut [u8] = notes;
     if SHEET_LIMIT < sheet.len() {
         return SheetCheck::Refused(1, 0);
     }
-    read_commands(sheet, numbers)
+    read_commands(sheet, numbers, widths)
 }

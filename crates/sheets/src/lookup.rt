@@ -41,51 +41,52 @@ pub fn rule_place(k: usize, a: usize) -> usize
     RULES_AT + k * ATTRIBUTE_LIMIT + a
 }
 
-fn wide(x: u32) -> usize
-    ensures { λ r. ⌜ r ≡ x ⌝ }
+// The number that the index has at a place.
+fn number_at(index: &[u16], place: usize) -> usize
+    requires { ⌜ place < length (now index) ⌝ }
+    ensures { λ r. ⌜ r ≡ getD (now (index .entry)) place 0 ⌝ }
 {
-    x as usize
+    index[place] as usize
 }
 
 // How many attributes and nodes an accepted sheet declares.
-pub fn attribute_count(index: &[u32]) -> usize
+pub fn attribute_count(index: &[u16]) -> usize
     requires { ⌜ length (now index) ≡ indexSize ⌝ }
     ensures { λ r. ⌜ r ≡ getD (now (index .entry)) attributesPlace 0 ⌝ }
 {
-    wide(index[ATTRIBUTES_PLACE])
+    number_at(index, ATTRIBUTES_PLACE)
 }
 
-pub fn node_count(index: &[u32]) -> usize
+pub fn node_count(index: &[u16]) -> usize
     requires { ⌜ length (now index) ≡ indexSize ⌝ }
     ensures { λ r. ⌜ r ≡ getD (now (index .entry)) nodesPlace 0 ⌝ }
 {
-    wide(index[NODES_PLACE])
+    number_at(index, NODES_PLACE)
 }
 
 // The figure of a pair, by one read of the index.
-pub fn figure(sheet: &[u8], index: &[u32], n: usize, a: usize) -> FoundFigure
+pub fn figure(sheet: &[u8], index: &[u16], n: usize, a: usize) -> FoundFigure
     requires { ⌜ IndexedPair (now sheet) (now index) n a ⌝ }
     ensures { λ r. ⌜ figureOf r ≡ indexed (getD (now (index .entry)) (figurePlace n a) 0) (figureAt (now (sheet .entry)) a) ⌝ }
 {
-    let place = index[figure_place(n, a)] as usize;
-    if place == 0 {
+    let number = number_at(index, figure_place(n, a));
+    if number == 0 {
         return FoundFigure::NoFigure;
     }
-    FoundFigure::Of(values::value_of(values::result_at(sheet, a), values::four(sheet, place + 3)))
+    FoundFigure::Of(values::value_of(values::result_at(sheet, a), values::four(sheet, number + 3)))
 }
 
 // The number that the index has for the rule of a node's kind and an attribute.
-fn rule_number(sheet: &[u8], index: &[u32], n: usize, a: usize) -> usize
+fn rule_number(sheet: &[u8], index: &[u16], n: usize, a: usize) -> usize
     requires { ⌜ IndexedRule (now sheet) (now index) n a ⌝ }
     ensures { λ r. ⌜ r ≡ ruleNumber (now (sheet .entry)) (now (index .entry)) n a ⌝ }
 {
-    let attributes = index[ATTRIBUTES_PLACE] as usize;
-    let k = crate::wide(values::kind_at(sheet, attributes, n));
-    index[rule_place(k, a)] as usize
+    let k = values::kind_at(sheet, attribute_count(index), n) as usize;
+    number_at(index, rule_place(k, a))
 }
 
 // The piece of the rule for a node's kind and an attribute, as a part of the sheet.
-pub fn rule<'a>(sheet: &'a [u8], index: &[u32], n: usize, a: usize) -> &'a [u8]
+pub fn rule<'a>(sheet: &'a [u8], index: &[u16], n: usize, a: usize) -> &'a [u8]
     requires { ⌜ IndexedRule (now sheet) (now index) n a ⌝ }
     ensures { λ r. ⌜ now r ≡ pieceAt (now (sheet .entry)) (ruleNumber (now (sheet .entry)) (now (index .entry)) n a - 1) ⌝ }
 {
@@ -96,7 +97,7 @@ pub fn rule<'a>(sheet: &'a [u8], index: &[u32], n: usize, a: usize) -> &'a [u8]
 }
 
 // Where that piece starts in the sheet.
-pub fn rule_start(sheet: &[u8], index: &[u32], n: usize, a: usize) -> usize
+pub fn rule_start(sheet: &[u8], index: &[u16], n: usize, a: usize) -> usize
     requires { ⌜ IndexedRule (now sheet) (now index) n a ⌝ }
     ensures { λ r. ⌜ r ≡ ruleNumber (now (sheet .entry)) (now (index .entry)) n a + 4 ⌝ }
 {

@@ -7,31 +7,35 @@ use native.Mathlib.Omega.{arith}
 use lib.Dec.{leb, eqb}
 use lib.ListN.{length, take, drop, getD, length-replicate}
 use lib.IntN.{ℤ}
-use Rattle.saiga.specs.Limits.{entryWidth, storeLimit}
+use Rattle.saiga.specs.Limits.{sheetLimit, entryWidth, storeLimit}
 use Rattle.saiga.specs.Sheet.{Sheet, Checked, refused_at-place_, accepted, checkSheet}
 use Rattle.saiga.specs.Caching.{Entry}
 use Rattle.saiga.specs.Store.{isEntry, entryOf, readEntries, capacity, checkStore}
 use Rattle.saiga.proofs.Accepted.{refused-numbers}
 use Rattle.sheets.specs.declared.SheetCheck.{SheetCheck}
 use Rattle.sheets.specs.declared.SheetCheck.the-variants as for-sheet
+use Rattle.sheets.specs.Notes.{ChecksNotes}
 use Rattle.sheets.specs.Scan.{attributesPlace, nodesPlace, checkOf, Checks}
 use Rattle.stores.specs.declared.StoreCheck.{StoreCheck}
 use Rattle.stores.specs.declared.StoreCheck.the-variants as for-store
 use Rattle.stores.specs.Keys.{storeCheckOf, StoreChecked}
-use Rattle.calls.specs.Prepared.{PreparedSheet}
-use Rattle.calls.proofs.CheckLaws.{SheetWith, counted, sheet-prepared, sheet-of, attributes-fit, store-prepared}
+use Rattle.calls.specs.Prepared.{PreparedSheet, NotedSheet}
+use Rattle.calls.proofs.CheckLaws.{SheetWith, counted, sheet-prepared, sheet-noted, sheet-of, attributes-fit, store-prepared}
 use Rattle.sofretu.specs.Check.{numberOf, placeOf, sheetFound, declaring, StoreFound}
 
 -- ---- The sheet
 
-module _ {sheet index : List ℕ} {r : SheetCheck} (checked : Checks sheet r index) where
+module _ {sheet index : List ℕ} (notes : List ℕ) {r : SheetCheck} (checked : Checks sheet r index) (noted : ChecksNotes sheet r index notes) (size : length notes ≡ sheetLimit) where
+  abbrev Ready : Type 0
+  Ready = PreparedSheet sheet index × NotedSheet sheet index notes
+
   pub sheet-refusal : {number place : ℕ} → r ≡ for-sheet.Refused number place
-      → (number ∷ place ∷ 0 ∷ 0 ∷ [] ≡ sheetFound (checkSheet sheet)) × (number ≡ 0 → PreparedSheet sheet index)
+      → (number ∷ place ∷ 0 ∷ 0 ∷ [] ≡ sheetFound (checkSheet sheet)) × (number ≡ 0 → Ready)
   unfolding checkOf sheetFound
   sheet-refusal {number} {place} is = go (checkSheet sheet) refl (checked .checked)
     where
       go : (C : Checked Sheet) → checkSheet sheet ≡ C → r ≡ checkOf C
-          → (number ∷ place ∷ 0 ∷ 0 ∷ [] ≡ sheetFound C) × (number ≡ 0 → PreparedSheet sheet index)
+          → (number ∷ place ∷ 0 ∷ 0 ∷ [] ≡ sheetFound C) × (number ≡ 0 → Ready)
       go (refused n at-place p) c e =
           let same : for-sheet.Refused n p ≡ for-sheet.Refused number place = sym e ∙ is in
           let a : number ≡ n = cc in
@@ -40,11 +44,11 @@ module _ {sheet index : List ℕ} {r : SheetCheck} (checked : Checks sheet r ind
       go (accepted s) c e = absurd (let z : _≡_ {A = ℕ} 0 1 = cc in omega arith)
 
   pub sheet-acceptance : {attributes nodes : ℕ} → r ≡ for-sheet.Accepted attributes nodes
-      → (0 ∷ 0 ∷ attributes ∷ nodes ∷ [] ≡ sheetFound (checkSheet sheet)) × (_≡_ {A = ℕ} 0 0 → PreparedSheet sheet index)
+      → (0 ∷ 0 ∷ attributes ∷ nodes ∷ [] ≡ sheetFound (checkSheet sheet)) × (_≡_ {A = ℕ} 0 0 → Ready)
   unfolding sheetFound
   sheet-acceptance {attributes} {nodes} is =
       let p = sheet-prepared checked is in
-      (rw (p .prepared .accepts, p .attributes-are, p .nodes-are), λ _. p .prepared)
+      (rw (p .prepared .accepts, p .attributes-are, p .nodes-are), λ _. (p .prepared, sheet-noted checked size noted (p .prepared .of) (p .prepared .accepts)))
 
 -- ---- The store
 

@@ -2,6 +2,7 @@
 use calls::Answer;
 use calls::checks::Verdict;
 use engine::RUN_SIZE;
+use saiga::limits::SHEET_LIMIT;
 use sheets::SheetCheck;
 use sheets::lookup::INDEX_SIZE;
 use stores::LINKS_SIZE;
@@ -10,18 +11,19 @@ ghost use mathlib.Core.List.{_∷_};
 ghost use mathlib.Core.Path.{_≡_};
 ghost use Prim.Native.Nat.{min};
 ghost use lib.ListN.{length};
+ghost use Rattle.saiga.specs.Limits.{sheetLimit};
 ghost use Rattle.saiga.specs.Ask.{lent, asking, checkCall, ask};
 ghost use Rattle.saiga.specs.Sheet.{checkSheet};
 ghost use Rattle.sheets.specs.Scan.{indexSize};
 ghost use Rattle.calls.specs.Answers.{answerOf};
-ghost use Rattle.calls.specs.Prepared.{PreparedSheet, PreparedStore};
+ghost use Rattle.calls.specs.Prepared.{PreparedSheet, NotedSheet, PreparedStore};
 ghost use Rattle.calls.specs.Verdict.{Indexes};
 ghost use Rattle.calls.specs.Askable.{RunScratch};
 ghost use Rattle.sofretu.specs.Check.{numberOf, placeOf, sheetFound, StoreFound};
 ghost use Rattle.sofretu.specs.Six.{inSigned, six};
 
 // The check of a call's arguments: 0, or the number of the stop that refuses them, 1 to 13, with its place in `place`. It takes some
-// 145 KB of stack.
+// 210 KB of stack.
 #[no_mangle]
 pub extern "C" fn sofretu_check(
     sheet: &[u8],
@@ -34,7 +36,8 @@ pub extern "C" fn sofretu_check(
     ensures { λ r. ⌜ r ≡ numberOf (checkCall (now (sheet .entry)) (lent (now (store .entry)) kept) (asking (now (question .entry)) budget)) ⌝ }
     ensures { λ _. ⌜ now (place .exit) ≡ placeOf (checkCall (now (sheet .entry)) (lent (now (store .entry)) kept) (asking (now (question .entry)) budget)) ⌝ }
 {
-    let mut index = [0u32; INDEX_SIZE];
+    let mut index = [0u16; INDEX_SIZE];
+    let mut notes = [0u8; SHEET_LIMIT];
     let mut links = [0u16; LINKS_SIZE];
     match calls::checks::check(
         sheet,
@@ -43,6 +46,7 @@ pub extern "C" fn sofretu_check(
         kept as usize,
         budget as usize,
         &mut index,
+        &mut notes,
         &mut links,
     ) {
         Verdict::Refused(number, at) => {
@@ -103,7 +107,8 @@ pub extern "C" fn sofretu_ask_in<'a>(
     store: &mut [u8],
     kept: u64,
     budget: u64,
-    index: &mut [u32; INDEX_SIZE],
+    index: &mut [u16; INDEX_SIZE],
+    notes: &mut [u8; SHEET_LIMIT],
     links: &mut [u16; LINKS_SIZE],
     memory: &mut [u64; RUN_SIZE],
     answer: &mut [i64; 6],
@@ -111,7 +116,7 @@ pub extern "C" fn sofretu_ask_in<'a>(
     ensures { λ _. ⌜ now (answer .exit) ≡ six (ask (now (sheet .entry)) (lent (now (store .entry)) kept) (asking (now (question .entry)) budget) .answer) ⌝ }
     ensures { λ _. ⌜ now (store .exit) ≡ ask (now (sheet .entry)) (lent (now (store .entry)) kept) (asking (now (question .entry)) budget) .store ⌝ }
     ensures { λ _. ⌜ Indexes (now (sheet .entry)) (now (store .exit))
-        (ask (now (sheet .entry)) (lent (now (store .entry)) kept) (asking (now (question .entry)) budget) .answer .kept) (now (index .exit)) (now (links .exit)) ⌝ }
+        (ask (now (sheet .entry)) (lent (now (store .entry)) kept) (asking (now (question .entry)) budget) .answer .kept) (now (index .exit)) (now (notes .exit)) (now (links .exit)) ⌝ }
     ensures { λ _. ⌜ RunScratch (checkCall (now (sheet .entry)) (lent (now (store .entry)) kept) (asking (now (question .entry)) budget))
         (now (memory .entry)) (now (memory .exit)) ⌝ }
 {
@@ -122,13 +127,14 @@ pub extern "C" fn sofretu_ask_in<'a>(
         kept as usize,
         budget as usize,
         index,
+        notes,
         links,
         memory,
     );
     lay(a, answer);
 }
 
-// A question call. Its scratch takes some 210 KB of stack.
+// A question call. It takes some 345 KB of stack.
 #[no_mangle]
 pub extern "C" fn sofretu_ask<'a>(
     sheet: &'a [u8],
@@ -141,7 +147,8 @@ pub extern "C" fn sofretu_ask<'a>(
     ensures { λ _. ⌜ now (answer .exit) ≡ six (ask (now (sheet .entry)) (lent (now (store .entry)) kept) (asking (now (question .entry)) budget) .answer) ⌝ }
     ensures { λ _. ⌜ now (store .exit) ≡ ask (now (sheet .entry)) (lent (now (store .entry)) kept) (asking (now (question .entry)) budget) .store ⌝ }
 {
-    let mut index = [0u32; INDEX_SIZE];
+    let mut index = [0u16; INDEX_SIZE];
+    let mut notes = [0u8; SHEET_LIMIT];
     let mut links = [0u16; LINKS_SIZE];
     let mut memory = [0u64; RUN_SIZE];
     sofretu_ask_in(
@@ -151,25 +158,27 @@ pub extern "C" fn sofretu_ask<'a>(
         kept,
         budget,
         &mut index,
+        &mut notes,
         &mut links,
         &mut memory,
         answer,
     );
 }
 
-// The check of a sheet, which fills its index: 0, or the number of the stop that refuses it, 1 to 8. `found` has the place, and of an accepted
+// The check of a sheet, which fills its index and its notes: 0, or the number of the stop that refuses it, 1 to 8. `found` has the place, and of an accepted
 // sheet the numbers of attributes and nodes.
 #[no_mangle]
 pub extern "C" fn sofretu_check_sheet(
     sheet: &[u8],
-    index: &mut [u32; INDEX_SIZE],
+    index: &mut [u16; INDEX_SIZE],
+    notes: &mut [u8; SHEET_LIMIT],
     found: &mut [u64; 3],
 ) -> u32
     ensures { λ r. ⌜ (r ∷ now (found .exit)) ≡ sheetFound (checkSheet (now (sheet .entry))) ⌝ }
-    ensures { λ r. ⌜ (r ≡ 0 → PreparedSheet (now (sheet .entry)) (now (index .exit))) ⌝ }
-    ensures { λ _. ⌜ length (now (index .exit)) ≡ indexSize ⌝ }
+    ensures { λ r. ⌜ (r ≡ 0 → PreparedSheet (now (sheet .entry)) (now (index .exit)) × NotedSheet (now (sheet .entry)) (now (index .exit)) (now (notes .exit))) ⌝ }
+    ensures { λ _. ⌜ (length (now (index .exit)) ≡ indexSize) × (length (now (notes .exit)) ≡ sheetLimit) ⌝ }
 {
-    match sheets::check(sheet, index) {
+    match sheets::check(sheet, index, notes) {
         SheetCheck::Refused(number, place) => {
             *found = [place as u64, 0, 0];
             number
@@ -193,7 +202,7 @@ fn least(a: usize, b: usize) -> usize
 #[no_mangle]
 pub extern "C" fn sofretu_check_store(
     sheet: &[u8],
-    index: &[u32; INDEX_SIZE],
+    index: &[u16; INDEX_SIZE],
     store: &[u8],
     kept: u64,
     links: &mut [u16; LINKS_SIZE],
@@ -220,12 +229,13 @@ pub extern "C" fn sofretu_check_store(
     }
 }
 
-// A question to a sheet and a store that were checked: index as sofretu_check_sheet left it, links as sofretu_check_store or an earlier call of this
+// A question to a sheet and a store that were checked: index and notes as sofretu_check_sheet left them, links as sofretu_check_store or an earlier call of this
 // left them. What it answers and leaves is what sofretu_ask does.
 #[no_mangle]
 pub extern "C" fn sofretu_ask_checked<'a>(
     sheet: &'a [u8],
-    index: &[u32; INDEX_SIZE],
+    index: &[u16; INDEX_SIZE],
+    notes: &[u8; SHEET_LIMIT],
     question: &'a [u8],
     store: &mut [u8],
     kept: u64,
@@ -234,7 +244,7 @@ pub extern "C" fn sofretu_ask_checked<'a>(
     memory: &mut [u64; RUN_SIZE],
     answer: &mut [i64; 6],
 )
-    requires { ⌜ PreparedSheet (now sheet) (now index) ⌝ }
+    requires { ⌜ PreparedSheet (now sheet) (now index) × NotedSheet (now sheet) (now index) (now notes) ⌝ }
     requires { ⌜ PreparedStore (now sheet) (now store) kept (now links) ⌝ }
     ensures { λ _. ⌜ now (answer .exit) ≡ six (ask (now (sheet .entry)) (lent (now (store .entry)) kept) (asking (now (question .entry)) budget) .answer) ⌝ }
     ensures { λ _. ⌜ now (store .exit) ≡ ask (now (sheet .entry)) (lent (now (store .entry)) kept) (asking (now (question .entry)) budget) .store ⌝ }
@@ -246,6 +256,7 @@ pub extern "C" fn sofretu_ask_checked<'a>(
     let a = calls::ask_checked(
         sheet,
         index,
+        notes,
         question,
         store,
         kept as usize,

@@ -11,15 +11,18 @@ use trials::{Answer, Ask, Call, Case, Engine};
 #[derive(Default)]
 pub struct Ways {
     whole: Whole,
+    cleared: Cleared,
     lent: Lent,
     session: Sessions,
 }
 
 impl Ways {
-    /// The engines with the names of the C calls that they put a question by.
-    pub fn all(&mut self) -> [(&'static str, &mut dyn Engine); 3] {
+    /// The engines with the names of the C calls that they put a question by: `sofretu_ask_in` in scratch on the stack, which is not
+    /// cleared, and in scratch on the heap, which was used.
+    pub fn all(&mut self) -> [(&'static str, &mut dyn Engine); 4] {
         [
-            ("sofretu_ask", &mut self.whole),
+            ("sofretu_ask_in on the stack", &mut self.whole),
+            ("sofretu_ask", &mut self.cleared),
             ("sofretu_ask_in", &mut self.lent),
             ("sofretu_ask_checked", &mut self.session),
         ]
@@ -60,6 +63,16 @@ struct Whole;
 impl Engine for Whole {
     fn ask(&mut self, call: Call) -> Answer {
         sofretu::ask(call).fields().into()
+    }
+}
+
+/// The same in scratch that is cleared.
+#[derive(Default)]
+struct Cleared;
+
+impl Engine for Cleared {
+    fn ask(&mut self, call: Call) -> Answer {
+        sofretu::ask_cleared(call).fields().into()
     }
 }
 

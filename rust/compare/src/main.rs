@@ -18,8 +18,8 @@ fn main() -> ExitCode {
         },
         ["replay", file] => {
             let mut oracle = Oracle::default();
-            let [a, b, c] = ways.all();
-            replay(&mut [("the oracle", &mut oracle), a, b, c], file)
+            let [a, b, c, d] = ways.all();
+            replay(&mut [("the oracle", &mut oracle), a, b, c, d], file)
         }
         _ => Err(USAGE.into()),
     })

@@ -76,7 +76,7 @@ fn any_numbers_are_answered_as_the_header_says() {
         if numbers.below(20) == 0 {
             store.push(0);
         }
-        let any = [0, 1, 2, 3, 33, 1_025, u32::MAX / 3, u32::MAX];
+        let any = [0, 1, 2, 3, 33, 1_025, u16::MAX / 3, u16::MAX];
         let attributes = any[numbers.below(8) as usize];
         let nodes = any[numbers.below(8) as usize];
         // The last two words are the numbers of attributes and nodes.

@@ -1,4 +1,4 @@
-//! The C calls of the static library that `rt staticlib sofretu` writes, and each of them over slices and the three kinds of scratch.
+//! The C calls of the static library that `rt staticlib sofretu` writes, and each of them over slices and the four kinds of scratch.
 //!
 //! A call reads what a slice spans and writes what it is lent as `&mut`; the borrows give it that for as long as it runs. It asks
 //! nothing of what lent memory holds, unless its function says so. For safe types over these calls see the crate `sofretu`.
@@ -6,6 +6,8 @@
 //! What the scratch is made of is known here and in `include/sofretu.h` only.
 #![deny(unsafe_op_in_unsafe_fn)]
 #![warn(missing_docs)]
+
+use std::mem::MaybeUninit;
 
 pub use calls::Call;
 
@@ -20,6 +22,8 @@ pub type Found = (u32, u64);
 
 /// How many words a checked sheet has.
 const SHEET: usize = 33_282;
+/// How many bytes are noted of a sheet.
+const NOTES: usize = 65_536;
 /// How many words a checked store has.
 const STORE: usize = 9_216;
 /// How many words a run has.
@@ -32,7 +36,8 @@ pub struct CheckedSheet {
     pub attributes: u64,
     /// How many nodes the sheet declares; 0 of a refused one.
     pub nodes: u64,
-    words: Box<[u32; SHEET]>,
+    words: Box<[u16; SHEET]>,
+    notes: Box<[u8; NOTES]>,
 }
 
 /// What the check of a store leaves for the questions that are lent it.
@@ -53,6 +58,7 @@ impl Default for CheckedSheet {
             attributes: 0,
             nodes: 0,
             words: zeros(),
+            notes: zeros(),
         }
     }
 }
@@ -98,7 +104,8 @@ extern "C" {
         store_len: usize,
         kept: u64,
         budget: u64,
-        checked_sheet: *mut [u32; SHEET],
+        checked_sheet: *mut [u16; SHEET],
+        noted_sheet: *mut [u8; NOTES],
         checked_store: *mut [u16; STORE],
         run: *mut [u64; RUN],
         answer: *mut [i64; 6],
@@ -107,14 +114,15 @@ extern "C" {
     fn sofretu_check_sheet(
         sheet: *const u8,
         sheet_len: usize,
-        checked_sheet: *mut [u32; SHEET],
+        checked_sheet: *mut [u16; SHEET],
+        noted_sheet: *mut [u8; NOTES],
         found: *mut [u64; 3],
     ) -> u32;
 
     fn sofretu_check_store(
         sheet: *const u8,
         sheet_len: usize,
-        checked_sheet: *const [u32; SHEET],
+        checked_sheet: *const [u16; SHEET],
         store: *const u8,
         store_len: usize,
         kept: u64,
@@ -125,7 +133,8 @@ extern "C" {
     fn sofretu_ask_checked(
         sheet: *const u8,
         sheet_len: usize,
-        checked_sheet: *const [u32; SHEET],
+        checked_sheet: *const [u16; SHEET],
+        noted_sheet: *const [u8; NOTES],
         question: *const u8,
         question_len: usize,
         store: *mut u8,
@@ -150,13 +159,36 @@ extern "C" {
     ) -> u32;
 }
 
-/// One question with all its checks.
+/// One question with all its checks. Its scratch is on the stack and is not cleared, since nothing is asked of what it holds.
 ///
 /// # Safety
 ///
 /// At least 512 KB of the stack are free.
 #[inline]
 pub unsafe fn ask(call: Call) -> Fields {
+    let mut sheet = MaybeUninit::uninit();
+    let mut notes = MaybeUninit::uninit();
+    let mut store = MaybeUninit::uninit();
+    let mut run = MaybeUninit::uninit();
+    // SAFETY: the four are this call's. The stack is the caller's to see to.
+    unsafe {
+        ask_within(
+            call,
+            sheet.as_mut_ptr(),
+            notes.as_mut_ptr(),
+            store.as_mut_ptr(),
+            run.as_mut_ptr(),
+        )
+    }
+}
+
+/// As [`ask`], by the library's call that makes its scratch itself and clears it.
+///
+/// # Safety
+///
+/// As [`ask`].
+#[inline]
+pub unsafe fn ask_cleared(call: Call) -> Fields {
     let mut answer = [0; 6];
     // SAFETY: all is borrowed, for reading or writing as the call has it. The stack is the caller's to see to.
     unsafe {
@@ -183,8 +215,32 @@ pub fn ask_in(
     store: &mut CheckedStore,
     run: &mut Run,
 ) -> Fields {
+    // SAFETY: the scratch is borrowed for writing.
+    unsafe {
+        ask_within(
+            call,
+            &mut *sheet.words,
+            &mut *sheet.notes,
+            &mut *store.words,
+            &mut *run.words,
+        )
+    }
+}
+
+/// # Safety
+///
+/// The scratch may be written.
+#[inline]
+unsafe fn ask_within(
+    call: Call,
+    sheet: *mut [u16; SHEET],
+    notes: *mut [u8; NOTES],
+    store: *mut [u16; STORE],
+    run: *mut [u64; RUN],
+) -> Fields {
     let mut answer = [0; 6];
-    // SAFETY: all is borrowed, for reading or writing as the call has it. Nothing else is required, of the scratch neither.
+    // SAFETY: all is borrowed, for reading or writing as the call has it, and the scratch is the caller's to see to. Nothing else is
+    // required, of what the scratch holds neither.
     unsafe {
         sofretu_ask_in(
             call.sheet.as_ptr(),
@@ -195,9 +251,10 @@ pub fn ask_in(
             call.store.len(),
             call.kept,
             call.budget,
-            &mut *sheet.words,
-            &mut *store.words,
-            &mut *run.words,
+            sheet,
+            notes,
+            store,
+            run,
             &mut answer,
         );
     }
@@ -210,7 +267,13 @@ pub fn check_sheet(sheet: &[u8], checked: &mut CheckedSheet) -> Found {
     let mut found = [0; 3];
     // SAFETY: `sheet` is borrowed for reading, the checked sheet and `found` for writing. Nothing else is required.
     let number = unsafe {
-        sofretu_check_sheet(sheet.as_ptr(), sheet.len(), &mut *checked.words, &mut found)
+        sofretu_check_sheet(
+            sheet.as_ptr(),
+            sheet.len(),
+            &mut *checked.words,
+            &mut *checked.notes,
+            &mut found,
+        )
     };
     let [place, attributes, nodes] = found;
     checked.attributes = attributes;
@@ -266,6 +329,7 @@ pub unsafe fn ask_checked(
             call.sheet.as_ptr(),
             call.sheet.len(),
             &*sheet.words,
+            &*sheet.notes,
             call.question.as_ptr(),
             call.question.len(),
             call.store.as_mut_ptr(),

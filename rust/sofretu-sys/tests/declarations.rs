@@ -179,7 +179,8 @@ fn c() -> Calls {
         .into_iter()
         .map(|declared| {
             let (array, name) = declared.split_once(";\n} ").expect("one array and a name");
-            let (typ, length) = array.trim().split_once(" words[").expect("its type");
+            let (field, length) = array.trim().split_once('[').expect("an array");
+            let (typ, _) = field.split_once(' ').expect("its type");
             let length = length.strip_suffix(']').expect("its length");
             (name, (typed(typ), number(length, &constants)))
         })
@@ -244,7 +245,13 @@ fn rust_and_c_declare_the_same_calls() {
     let (parameters, result) = &rust["sofretu_check_sheet"];
     assert_eq!(
         *parameters,
-        ["*const u8", "u64", "*mut [u32; 33282]", "*mut [u64; 3]"]
+        [
+            "*const u8",
+            "u64",
+            "*mut [u16; 33282]",
+            "*mut [u8; 65536]",
+            "*mut [u64; 3]"
+        ]
     );
     assert_eq!(result, "u32");
 }

@@ -68,7 +68,7 @@ mod store;
 pub use answer::{Answer, Value};
 #[doc(inline)]
 pub use calls::{Call, Origin, Refusal, Stop};
-pub use library::{ask, check, Scratch, Session, Sheet};
+pub use library::{ask, ask_cleared, check, Scratch, Session, Sheet};
 pub use store::{Store, ENTRY, MOST_ENTRIES};
 
 /// The greatest budget permitted.

@@ -9,7 +9,7 @@ use Rattle.calls.proofs.ask.Tie as tie
 abbrev lent-words : tie.After-check → tie.After-words
 lent-words c =
     let at-check-arg = c .before .before .before in
-    at-check-arg .before
+    at-check-arg .before .before
 
 pub ask-spec : {M : Type 1} → statement M
 ask-spec =
@@ -21,8 +21,9 @@ ask-spec =
     (λ c. search needs)
     (λ c κs.
     let at-put-arg = c .before .before .before in
-    let at-check = at-put-arg .before .before .before in
-    checked-askable (at-check .check .ensures) (at-put-arg .before .enum-told .given .1) (search (needs, lent-words at-check .words .given)))
+    let at-enum-told = at-put-arg .before .before .before in
+    let at-check = at-enum-told .before .before in
+    checked-askable (at-check .check .ensures) (at-enum-told .enum-told .given .1) (search (needs, lent-words at-check .words .given)))
     (λ c. search needs)
     (λ c.
     let at-number = c .before .before in
@@ -34,7 +35,8 @@ ask-spec =
     (λ c.
     let at-put = c .before .before in
     let at-put-arg2 = at-put .before .before .before in
-    let at-enum-told = at-put-arg2 .before .before in
+    let at-put-arg = at-put-arg2 .before in
+    let at-enum-told = at-put-arg .before .before .before in
     let at-check = at-enum-told .before .before in
     let accepts = checked-accepts (at-check .check .ensures) (at-enum-told .enum-told .given .1) .1 in
-    (at-put .put .ensures .0, (at-put .put .ensures .1 .0, (indexes-after (at-check .check .ensures .scratch) (at-put .put .ensures .1 .1), scratch-used accepts (search (needs, lent-words at-check .words .given, at-put .put .kept .1 .1 .1 .1 .1 .0)))))))
+    (at-put .put .ensures .0, (at-put .put .ensures .1 .0, (indexes-after (at-check .check .ensures .scratch) (at-put .put .ensures .1 .1), scratch-used accepts (search (needs, lent-words at-check .words .given, at-put .put .kept .1 .1 .1 .1 .1 .1 .0)))))))

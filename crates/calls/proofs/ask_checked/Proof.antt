@@ -12,11 +12,12 @@ lent-words c = c .before .before
 abbrev start : tie.After-node-count → tie.Start
 start c =
     let at-shared-slice-known3 = lent-words c .before .before .before in
-    at-shared-slice-known3 .before .before .before
+    let at-shared-slice-known = at-shared-slice-known3 .before .before .before in
+    at-shared-slice-known .before
 
 abbrev known : (c : tie.After-node-count)
     → SheetWith (start c .args .sheet .now) (start c .args .index .now) (c .before .attribute-count .result) (c .node-count .result)
-known c = counted (start c .pre .0) (c .before .attribute-count .ensures) (c .node-count .ensures)
+known c = counted (start c .pre .0 .0) (c .before .attribute-count .ensures) (c .node-count .ensures)
 
 pub ask-checked-spec : {M : Type 1} → statement M
 ask-checked-spec =
@@ -31,7 +32,7 @@ ask-checked-spec =
     (λ c κs.
     let at-enum-told = c .before .before in
     let at-node-count = at-enum-told .before .before .before in
-    askable (known at-node-count) (start at-node-count .pre .1) _ _ (at-enum-told .before .before .check-question .ensures) (at-enum-told .enum-told .given .1) (search (needs, lent-words at-node-count .words .given)))
+    askable (known at-node-count) (start at-node-count .pre .1) _ _ (at-enum-told .before .before .check-question .ensures) (start at-node-count .pre .0 .1) (at-enum-told .enum-told .given .1) (search (needs, lent-words at-node-count .words .given)))
     (λ c.
     let at-number = c .before .before in
     let at-node-count = at-number .before .before .before in
@@ -48,4 +49,4 @@ ask-checked-spec =
     let at-node-count = at-enum-told .before .before .before in
     let prepared = start at-node-count .pre .1 in
     let accepts = question-accepts (known at-node-count) prepared _ _ (at-enum-told .before .before .check-question .ensures) (at-enum-told .enum-told .given .1) .1 in
-    (at-put .put .ensures .0, (at-put .put .ensures .1 .0, (prepared-again (known at-node-count) prepared _ _ (at-put .put .result) (at-put .put .ensures .0) (at-put .put .ensures .1 .0) (at-put .put .ensures .1 .1), scratch-used accepts (search (needs, lent-words at-node-count .words .given, at-put .put .kept .1 .1 .1 .1 .1 .0)))))))
+    (at-put .put .ensures .0, (at-put .put .ensures .1 .0, (prepared-again (known at-node-count) prepared _ _ (at-put .put .result) (at-put .put .ensures .0) (at-put .put .ensures .1 .0) (at-put .put .ensures .1 .1), scratch-used accepts (search (needs, lent-words at-node-count .words .given, at-put .put .kept .1 .1 .1 .1 .1 .1 .0)))))))

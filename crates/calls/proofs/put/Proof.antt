@@ -19,7 +19,7 @@ abbrev start : tie.After-begin → tie.Start
 start c =
     let at-slice-known = c .before .before .before in
     let at-shared-slice-known = at-slice-known .before .before .before in
-    at-shared-slice-known .before
+    at-shared-slice-known .before .before
 
 pub put-spec : {M : Type 1} → statement M
 put-spec =

@@ -1,42 +1,26 @@
--- The laws of Wholes.antt, at what `read` ensures.
+-- The laws of Wholes.antt and Noting.antt, at what `read` ensures.
+use Rattle.expressions.proofs.Noting.{unread-notes, part-notes, whole-notes}
 use Rattle.expressions.proofs.Wholes.{whole-long, whole-malformed, whole-reads, whole-left-over}
+use native.Mathlib.Omega.{arith}
 use borrow.Author.Needs.{needs}
 use Rattle.expressions.proofs.read_whole.Statement.{statement}
 use Rattle.expressions.proofs.read_whole.Tie as tie
-
-returns : tie.Need-returns
-returns c = search whole-long
-
-within-of-requires : tie.Need-within-of-requires
-within-of-requires c κs = search needs
-
-read-requires : tie.Need-read-requires
-read-requires c κs = search needs
-
-enum-known-w : tie.Need-enum-known-w
-enum-known-w c = search needs
-
-enum-told : tie.Need-enum-told
-enum-told c = search needs
-
-returns-2 : tie.Need-returns-2
-returns-2 c = search whole-malformed
-
-returns-3 : tie.Need-returns-3
-returns-3 c = search whole-reads
-
-returns-4 : tie.Need-returns-4
-returns-4 c = search whole-left-over
 
 pub read-whole-spec : {M : Type 1} → statement M
 read-whole-spec =
     tie.close
     (tie.spec
-    returns
-    within-of-requires
-    read-requires
-    enum-known-w
-    enum-told
-    returns-2
-    returns-3
-    returns-4)
+    (λ c. (search whole-long, search unread-notes))
+    (λ c κs. search needs)
+    (λ c κs.
+    let at-if1 = c .before .before .before in
+    let entry = at-if1 .before .before .before in
+    (search needs, (omega arith, entry .pre .1 (omega arith))))  -- the expression
+    (λ c. search needs)
+    (λ c. search needs)
+    (λ c. search needs)
+    (λ c. (search whole-malformed, search part-notes))
+    (λ c. search needs)
+    (λ c. (search whole-reads, search whole-notes))
+    (λ c. search needs)
+    (λ c. (search whole-left-over, search part-notes)))

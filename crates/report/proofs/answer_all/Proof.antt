@@ -28,7 +28,7 @@ run-requires : tie.Need-run-requires
 run-requires c κs =
     let at-store2 = c .before .before .before in
     let at-run-arg = at-store2 .before .before .before in
-    (at-run-arg .before .prepare .ensures, (refl, rw length-replicate (lit≤ tt)))
+    (at-run-arg .before .before .before .prepare .ensures, (refl, rw length-replicate (lit≤ tt)))
 
 returns : tie.Need-returns
 returns c = search needs

@@ -18,11 +18,14 @@ check-requires-2 : tie.Need-check-requires-2
 check-requires-2 c κs =
     let at-match = c .before .before .before in
     let at-slice-known = at-match .before .before .before in
-    let at-start = at-slice-known .before .before .before in
-    (attributes-fit (sheet-prepared (at-match .before .check .ensures) (c .before .before .attributes .given .1)), at-start .pre .1)
+    let at-shared-slice-known = at-slice-known .before .before .before in
+    let at-start = at-shared-slice-known .before in
+    (attributes-fit (sheet-prepared (at-match .before .check .ensures .0) (c .before .before .attributes .given .1)), at-start .pre .1)
 
 returns : tie.Need-returns
-returns c = prepared-refused (c .before .before .before .check .ensures) (c .before .number .given .1)
+returns c =
+    let (checked, (rules, long)) = c .before .before .before .check .ensures in
+    prepared-refused _ checked rules long (c .before .number .given .1)
 
 same-length : tie.Need-same-length
 same-length c = search needs
@@ -32,8 +35,10 @@ returns-2 c =
     let at-check-arg2 = c .before .before .before in
     let at-match = at-check-arg2 .before .before .before in
     let at-slice-known = at-match .before .before .before in
-    let at-start = at-slice-known .before .before .before in
-    prepared-accepted (at-match .before .check .ensures) (at-check-arg2 .before .before .attributes .given .1) (at-start .pre .0) (c .before .before .check2 .ensures)
+    let at-shared-slice-known = at-slice-known .before .before .before in
+    let at-start = at-shared-slice-known .before in
+    let (checked, (rules, long)) = at-match .before .check .ensures in
+    prepared-accepted _ checked rules long (at-check-arg2 .before .before .attributes .given .1) (at-start .pre .0) (c .before .before .check2 .ensures)
 
 pub prepare-spec : {M : Type 1} → statement M
 prepare-spec =

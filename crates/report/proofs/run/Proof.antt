@@ -8,10 +8,10 @@ use Rattle.report.proofs.run.Statement.{statement}
 use Rattle.report.proofs.run.Tie as tie
 
 abbrev Inv-loop : tie.InvT-loop
-Inv-loop check sheet index input₀ store₀ links₀ memory₀ s₀ line₀ turns₀ input store links memory s line turns = Running check sheet index input₀ store₀ links₀ input store links line s turns
+Inv-loop check sheet index notes input₀ store₀ links₀ memory₀ s₀ line₀ turns₀ input store links memory s line turns = Running check sheet index notes input₀ store₀ links₀ input store links line s turns
 
 abbrev μ-loop : tie.MeasureT-loop
-μ-loop check sheet index input₀ store₀ links₀ memory₀ s₀ line₀ turns₀ input store links memory s line turns = turns
+μ-loop check sheet index notes input₀ store₀ links₀ memory₀ s₀ line₀ turns₀ input store links memory s line turns = turns
 
 -- ---- The way back: from the write to the turn, from there to the read before it, and to the loop's head
 
@@ -37,7 +37,8 @@ run-spec =
     (λ c κs.
     let head = c .before .before .before in
     let at-links = head .before .before .before in
-    (head .loop .inv .within, omega (arith, head .loop .inv .input-same, at-links .before .before .before .pre .1 .1)))
+    let at-shared-slice-known = at-links .before .before .before in
+    (head .loop .inv .within, omega (arith, head .loop .inv .input-same, at-shared-slice-known .before .pre .1 .1)))
     (λ c κs.
     let at-turn-arg2 = c .before .before .before in
     let at-input = at-turn-arg2 .before .before .before in
@@ -51,8 +52,8 @@ run-spec =
     sym (length-take-le _ _ (omega (arith, at-links .before .before .turn .ensures .1 .1 .1))))
     (λ c κs. tt)
     (λ c. let fetched = at-fetch (at-turn (c .before)) in fetched .fetch .kept .0 ∙ at-test fetched .before .loop .inv .input-same)  -- a line was not written
-    (λ c. let turned = at-turn (c .before) in turned .turn .kept .1 .1 .1 .1 .0 ∙ at-test (at-fetch turned) .before .loop .inv .store-same)
-    (λ c. let turned = at-turn (c .before) in turned .turn .kept .1 .1 .1 .1 .1 .0 ∙ at-test (at-fetch turned) .before .loop .inv .links-same)
+    (λ c. let turned = at-turn (c .before) in turned .turn .kept .1 .1 .1 .1 .1 .0 ∙ at-test (at-fetch turned) .before .loop .inv .store-same)
+    (λ c. let turned = at-turn (c .before) in turned .turn .kept .1 .1 .1 .1 .1 .1 .0 ∙ at-test (at-fetch turned) .before .loop .inv .links-same)
     (λ c.
     let turned = at-turn (c .before) in
     let fetched = at-fetch turned in
@@ -64,7 +65,7 @@ run-spec =
     let fetched = at-fetch turned in
     let test = at-test fetched in
     let (prepared, (within, (view-is, line))) = turned .turn .ensures in
-    let kept = turned .turn .kept .1 .1 .1 .1 in
+    let kept = turned .turn .kept .1 .1 .1 .1 .1 in
     running-on (test .before .loop .inv) (fetched .before .before .if1 .taken) (test .loop-test .taken) (fetched .fetch .ensures) (fetched .fetch .kept .0) prepared within view-is (line .size) (kept .0) (kept .1 .0))
     (λ c. search)  -- there is no more to do
     (λ c. search)

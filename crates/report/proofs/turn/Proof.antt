@@ -10,7 +10,7 @@ abbrev entry : tie.After-next-item → tie.Start
 entry c =
     let at-slice-known = c .before .before .before in
     let at-shared-slice-known = at-slice-known .before .before .before in
-    at-shared-slice-known .before
+    at-shared-slice-known .before .before
 
 abbrev at-question : tie.After-answer → tie.After-known-told
 at-question c = let at-answer-arg3 = c .before .before .before in at-answer-arg3 .before .before .before

@@ -11,11 +11,12 @@ use Rattle.runs.proofs.give.Tie as tie
 abbrev start : tie.After-kind → tie.Start
 start c =
     let at-slice-known3 = c .before .before .before in
-    let at-shared-slice-known3 = at-slice-known3 .before .before .before in
-    at-shared-slice-known3 .before .before .before
+    let at-shared-slice-known4 = at-slice-known3 .before .before .before in
+    let at-shared-slice-known = at-shared-slice-known4 .before .before .before in
+    at-shared-slice-known .before
 
 given : (c : tie.After-kind)
-    → Given (start c .args .sheet .now) (start c .args .index .now) (start c .args .question .now) (start c .args .store .now)
+    → Given (start c .args .sheet .now) (start c .args .index .now) (start c .args .notes .now) (start c .args .question .now) (start c .args .store .now)
     (start c .args .links .now) (start c .args .memory .now) (start c .args .limits .budget) (start c .args .limits .pause) (start c .args .m) (c .kind .result)
 given c = record { ready = start c .pre .0; gives = start c .pre .1 .0; some = start c .pre .1 .1; permitted = start c .pre .1 .2; kind = c .kind .ensures }
 
@@ -27,12 +28,12 @@ give-spec =
     (λ c.
     let at-slice-known = c .before .before .before in
     let at-shared-slice-known = at-slice-known .before .before .before in
-    let entry = at-shared-slice-known .before in
+    let entry = at-shared-slice-known .before .before in
     omega (arith, top-inside (entry .pre .0) (entry .pre .1 .1)))
     (λ c.
     let at-slice-known2 = c .before .before .before in
     let at-shared-slice-known2 = at-slice-known2 .before .before .before in
-    let entry = at-shared-slice-known2 .before .before in
+    let entry = at-shared-slice-known2 .before .before .before in
     omega (arith, top-inside (entry .pre .0) (entry .pre .1 .1), run-size _ (entry .pre .0 .represents)))
     (λ c κs. search needs)
     (λ c κs. search needs)

@@ -1,7 +1,7 @@
 -- `runs::give_if` meets its contract, by the limits. The branch is measured only where it is passed over: its width is there all the same.
 use mathlib.Core.Path.{refl, _∙_}
 use Rattle.engine.specs.CodeSteps.{steppedOf}
-use Rattle.engine.proofs.Widths.{width-of}
+use Rattle.expressions.proofs.Widths.{width-of}
 use Rattle.runs.proofs.Limits.{within-spent, within-waits, within-goes}
 use borrow.Author.Needs.{needs}
 use Rattle.runs.proofs.give_if.Statement.{statement}
@@ -11,7 +11,7 @@ returns : tie.Need-returns
 unfolding steppedOf
 returns c =
     let at-slice-known = c .before .before .before in
-    let entry = at-slice-known .before .before in
+    let entry = at-slice-known .before .before .before in
     let (skip, width) = width-of (entry .args .e .now) in
     (record { skip = skip; width = width; after = λ store. within-spent _ _ (entry .args .m) _ (c .if1 .taken) }, λ store. refl)
 
@@ -20,7 +20,7 @@ unfolding steppedOf
 returns-2 c =
     let at-if1 = c .before .before .before in
     let at-slice-known = at-if1 .before .before .before in
-    let entry = at-slice-known .before .before in
+    let entry = at-slice-known .before .before .before in
     let (skip, width) = width-of (entry .args .e .now) in
     (record { skip = skip; width = width; after = λ store. within-waits _ _ (entry .args .m) _ (at-if1 .if1 .left) (c .if2 .taken) }, λ store. refl)
 
@@ -37,7 +37,7 @@ returns-3 c =
     let at-if2 = at-take-if .before .before in
     let at-if1 = at-if2 .before .before .before in
     let at-slice-known = at-if1 .before .before .before in
-    let entry = at-slice-known .before .before in
+    let entry = at-slice-known .before .before .before in
     (record { skip = at-take-if .take-if .ensures .skip; width = at-take-if .take-if .ensures .width; after = λ store. at-take-if .take-if .ensures .after store ∙ within-goes _ _ (entry .args .m) _ (at-if1 .if1 .left) (at-if2 .if2 .left) }, λ store. tt)
 
 pub give-if-spec : {M : Type 1} → statement M

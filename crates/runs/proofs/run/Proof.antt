@@ -11,11 +11,11 @@ use Rattle.runs.proofs.run.Statement.{statement}
 use Rattle.runs.proofs.run.Tie as tie
 
 abbrev Inv-loop : tie.InvT-loop
-Inv-loop sheet index question store₀ links₀ memory₀ limits m₀ store links memory m =
-    Round sheet index question (limits .budget) (limits .pause) store₀ links₀ memory₀ m₀ store links memory m
+Inv-loop sheet index notes question store₀ links₀ memory₀ limits m₀ store links memory m =
+    Round sheet index notes question (limits .budget) (limits .pause) store₀ links₀ memory₀ m₀ store links memory m
 
 abbrev μ-loop : tie.MeasureT-loop
-μ-loop sheet index question store₀ links₀ memory₀ limits m₀ store links memory m =
+μ-loop sheet index notes question store₀ links₀ memory₀ limits m₀ store links memory m =
     measure (limits .budget) (machineIn sheet question (memoryOf store memory) m)
 
 pub run-spec : {M : Type 1} → statement M

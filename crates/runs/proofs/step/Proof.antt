@@ -9,11 +9,12 @@ use Rattle.runs.proofs.step.Tie as tie
 -- What every arm rests on, where the arguments are known.
 abbrev start : tie.After-slice-known3 → tie.Start
 start c =
-    let at-shared-slice-known3 = c .before .before .before in
-    at-shared-slice-known3 .before .before .before
+    let at-shared-slice-known4 = c .before .before .before in
+    let at-shared-slice-known = at-shared-slice-known4 .before .before .before in
+    at-shared-slice-known .before
 
 due : (c : tie.After-slice-known3)
-    → MoveDue (start c .args .sheet .now) (start c .args .index .now) (start c .args .question .now) (start c .args .store .now)
+    → MoveDue (start c .args .sheet .now) (start c .args .index .now) (start c .args .notes .now) (start c .args .question .now) (start c .args .store .now)
     (start c .args .links .now) (start c .args .memory .now) (start c .args .limits .budget) (start c .args .limits .pause) (start c .args .m)
 due c = record { ready = start c .pre .0; permitted = start c .pre .1 }
 

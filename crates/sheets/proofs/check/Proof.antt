@@ -8,6 +8,6 @@ pub check-spec : {M : Type 1} → statement M
 check-spec =
     tie.close
     (tie.spec
-    (λ c. long-checks _ _ (search needs) (search))
+    (λ c. (long-checks _ _ (search needs) (search), (tt, search needs)))
     (λ c κs. search needs)
-    (λ c. short-checks _ _ _ _ (search needs) (search needs) (search) (c .read-commands .ensures)))
+    (λ c. (short-checks _ _ _ _ (search needs) (search needs) (search) (c .read-commands .ensures .0), (search needs, search needs))))

@@ -13,9 +13,9 @@ complete-spec =
     (λ c κs. search needs)
     (λ c. search needs)
     (λ c. search needs)
-    (λ c. search needs)  -- index[ATTRIBUTES_PLACE] = p.attributes as u32
+    (λ c. search needs)  -- index[ATTRIBUTES_PLACE] = p.attributes as u16
     (λ c. search needs)
-    (λ c. search needs)  -- index[NODES_PLACE] = p.nodes as u32
+    (λ c. search needs)  -- index[NODES_PLACE] = p.nodes as u16
     (λ c. search needs)
     (λ c. search needs)
     (λ c. search complete-accepts)

@@ -20,7 +20,7 @@ gap-of-node-spec =
     Inv-loop
     μ-loop
     (λ c κs. search needs)  -- the kind
-    (λ c κs. search needs)
+    (λ c. search needs)
     (λ c. search node-start)
     (λ c κs. (search, search, omega arith, omega arith))  -- is_defined(index, n, k, a)
     (λ c κs. (search, omega arith))  -- lookup::figure_place(n, a)

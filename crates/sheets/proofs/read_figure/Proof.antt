@@ -28,7 +28,7 @@ read-figure-spec =
     (λ c. search needs)
     (λ c. search needs)
     (λ c. search figure-twice)
-    (λ c. search needs)  -- index[place] = (at + 1) as u32
+    (λ c. search needs)  -- index[place] = (at + 1) as u16
     (λ c. search needs)
     (λ c. search needs)
     (λ c. search needs)

@@ -31,6 +31,7 @@ static const struct {
 
 static uint8_t store[SOFRETU_MOST_ENTRIES * SOFRETU_ENTRY];
 static sofretu_checked_sheet checked_sheet;
+static sofretu_noted_sheet noted_sheet;
 static sofretu_checked_store checked_store;
 static sofretu_run run;
 static uint64_t found[3];
@@ -48,9 +49,9 @@ static void *ask(void *unused) {
 }
 
 static void *ask_in(void *unused) {
-    sofretu_ask_in(deep, sizeof deep, around, sizeof around, store, sizeof store, 0, 100, &checked_sheet, &checked_store, &run, answer);
+    sofretu_ask_in(deep, sizeof deep, around, sizeof around, store, sizeof store, 0, 100, &checked_sheet, &noted_sheet, &checked_store, &run, answer);
     FOR_EACH_QUESTION {
-        sofretu_ask_in(circle, sizeof circle, questions[q].bytes, questions[q].len, store, sizeof store, 0, 100, &checked_sheet,
+        sofretu_ask_in(circle, sizeof circle, questions[q].bytes, questions[q].len, store, sizeof store, 0, 100, &checked_sheet, &noted_sheet,
                        &checked_store, &run, answer);
     }
     return unused;
@@ -66,8 +67,8 @@ static void *check(void *unused) {
 
 /* The sheet that is accepted comes last, for the two calls below. */
 static void *check_sheet(void *unused) {
-    sofretu_check_sheet(deep, sizeof deep, &checked_sheet, found);
-    sofretu_check_sheet(circle, sizeof circle, &checked_sheet, found);
+    sofretu_check_sheet(deep, sizeof deep, &checked_sheet, &noted_sheet, found);
+    sofretu_check_sheet(circle, sizeof circle, &checked_sheet, &noted_sheet, found);
     return unused;
 }
 
@@ -78,7 +79,7 @@ static void *check_store(void *unused) {
 
 static void *ask_checked(void *unused) {
     FOR_EACH_QUESTION {
-        sofretu_ask_checked(circle, sizeof circle, &checked_sheet, questions[q].bytes, questions[q].len, store,
+        sofretu_ask_checked(circle, sizeof circle, &checked_sheet, &noted_sheet, questions[q].bytes, questions[q].len, store,
                             sizeof store, 0, 100, &checked_store, &run, answer);
     }
     return unused;

@@ -14,15 +14,18 @@ enum-known-attributes : tie.Need-enum-known-attributes
 enum-known-attributes c = search needs
 
 check-from-store-requires : tie.Need-check-from-store-requires
-check-from-store-requires c κs = (attributes-fit (sheet-prepared (c .before .before .before .check .ensures) (c .before .attributes .given .1)), search needs)
+check-from-store-requires c κs = (attributes-fit (sheet-prepared (c .before .before .before .check .ensures .0) (c .before .attributes .given .1)), search needs)
 
 returns : tie.Need-returns
-returns c = sheet-stops (c .before .before .before .check .ensures) _ _ (c .before .number .given .1) (search needs)
+returns c =
+    let at-check = c .before .before .before in
+    sheet-stops (at-check .check .ensures .0) _ _ (at-check .check .ensures .1 .1) (at-check .check .ensures .1 .0) (c .before .number .given .1) (search needs)
 
 returns-2 : tie.Need-returns-2
 returns-2 c =
     let at-attributes = c .before .before in
-    sheet-passes (at-attributes .before .before .check .ensures) _ _ (at-attributes .attributes .given .1) (c .check-from-store .ensures)
+    let at-check = at-attributes .before .before in
+    sheet-passes (at-check .check .ensures .0) _ _ (at-check .check .ensures .1 .1) (at-check .check .ensures .1 .0) (at-attributes .attributes .given .1) (c .check-from-store .ensures)
 
 pub check-spec : {M : Type 1} → statement M
 check-spec =

@@ -1,5 +1,4 @@
--- `lookup::figure` meets its contract: by whether the index has a place for the pair.
-use native.Mathlib.Omega.{arith}
+-- `lookup::figure` meets its contract: by whether the index has a number for the pair.
 use borrow.Author.Needs.{needs}
 use Rattle.sheets.proofs.Lookups.{no-figure, figure-fits, figure-room, figure-word, figure-value}
 use Rattle.sheets.proofs.lookup.figure.Statement.{statement}
@@ -9,13 +8,11 @@ pub figure-spec : {M : Type 1} → statement M
 figure-spec =
     tie.close
     (tie.spec
-    (λ c κs. search needs)  -- index[figure_place(n, a)] as usize
-    (λ c. search needs)
-    (λ c. search needs)
-    (λ c. omega (arith, c .shared-slice-known3 .given (c .before .figure-place .result)))
+    (λ c κs. search needs)  -- number_at(index, figure_place(n, a))
+    (λ c κs. search needs)
     (λ c. search no-figure)
     (λ c κs. search needs)
-    (λ c. search figure-fits)  -- values::four(sheet, place + 3)
+    (λ c. search figure-fits)  -- values::four(sheet, number + 3)
     (λ c κs. search figure-room)
     (λ c κs. search figure-word)
     (λ c. search figure-value))

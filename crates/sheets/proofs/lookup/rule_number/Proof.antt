@@ -9,12 +9,9 @@ pub rule-number-spec : {M : Type 1} → statement M
 rule-number-spec =
     tie.close
     (tie.spec
-    (λ c. search needs)  -- index[ATTRIBUTES_PLACE] as usize
-    (λ c. search needs)
+    (λ c κs. search needs)  -- attribute_count(index)
     (λ c κs. search needs)  -- the kind
-    (λ c κs. search needs)
-    (λ c κs. (search kind-small, omega arith))  -- index[rule_place(k, a)] as usize
     (λ c. search needs)
-    (λ c. search rule-within)
-    (λ c. omega (arith, c .shared-slice-known4 .given (c .before .rule-place .result)))
+    (λ c κs. (search kind-small, omega arith))  -- number_at(index, rule_place(k, a))
+    (λ c κs. search rule-within)
     (λ c. cc))

@@ -3,8 +3,8 @@ use mathlib.Core.Path.{sym}
 use borrow.Author.Tests.{eq-eqb, ne-eqb}
 use borrow.Author.Needs.{needs}
 use Rattle.expressions.proofs.TypeNumbers.{attribute-number}
-use Rattle.expressions.proofs.attribute_number.Statement.{statement}
-use Rattle.expressions.proofs.attribute_number.Tie as tie
+use Rattle.expressions.proofs.numbers.attribute_number.Statement.{statement}
+use Rattle.expressions.proofs.numbers.attribute_number.Tie as tie
 
 returns : tie.Need-returns
 returns c = λ m N X h p q. rw (attribute-number _ m _ N X h p q, ne-eqb 4 _ λ k. c .if1 .taken (sym k))

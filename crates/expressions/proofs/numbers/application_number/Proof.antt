@@ -2,8 +2,8 @@
 use borrow.Author.Tests.{lt-ltb, le-ltb, eq-eqb, ne-eqb}
 use borrow.Author.Needs.{needs}
 use Rattle.expressions.proofs.TypeNumbers.{application-number}
-use Rattle.expressions.proofs.application_number.Statement.{statement}
-use Rattle.expressions.proofs.application_number.Tie as tie
+use Rattle.expressions.proofs.numbers.application_number.Statement.{statement}
+use Rattle.expressions.proofs.numbers.application_number.Tie as tie
 
 returns : tie.Need-returns
 returns c = λ F X p q. rw (application-number F X p q, lt-ltb _ 5 (c .if1 .taken))

@@ -2,8 +2,8 @@
 use mathlib.Core.Path.{sym}
 use borrow.Author.Tests.{eq-eqb, ne-eqb}
 use Rattle.expressions.proofs.TypeNumbers.{if-number}
-use Rattle.expressions.proofs.if_number.Statement.{statement}
-use Rattle.expressions.proofs.if_number.Tie as tie
+use Rattle.expressions.proofs.numbers.if_number.Statement.{statement}
+use Rattle.expressions.proofs.numbers.if_number.Tie as tie
 
 returns : tie.Need-returns
 returns c = λ C T E p q r. rw (if-number C T E p q r, ne-eqb 2 _ λ h. c .if1 .taken (sym h))

@@ -1,8 +1,8 @@
 -- Each code has its number by computation.
 use borrow.Author.Tests.{ne-eqb}
 use Rattle.saiga.specs.Values.{baseOf}
-use Rattle.expressions.proofs.base_number.Statement.{statement}
-use Rattle.expressions.proofs.base_number.Tie as tie
+use Rattle.expressions.proofs.numbers.base_number.Statement.{statement}
+use Rattle.expressions.proofs.numbers.base_number.Tie as tie
 
 returns : tie.Need-returns
 unfolding baseOf

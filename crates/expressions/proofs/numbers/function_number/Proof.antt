@@ -2,8 +2,8 @@
 use borrow.Author.Tests.{ne-eqb}
 use Rattle.saiga.specs.Values.{functionOf, functionType}
 use Rattle.expressions.specs.Forms.{typeNumber}
-use Rattle.expressions.proofs.function_number.Statement.{statement}
-use Rattle.expressions.proofs.function_number.Tie as tie
+use Rattle.expressions.proofs.numbers.function_number.Statement.{statement}
+use Rattle.expressions.proofs.numbers.function_number.Tie as tie
 
 returns : tie.Need-returns
 unfolding typeNumber functionType functionOf

@@ -5,9 +5,9 @@ use Prim.Native.Nat.{ℕ, zero, suc, _+_, _-_, _/_, _%_, _≤_}
 use native.Mathlib.Omega.{arith}
 use lib.ListN.{length, getD}
 use Rattle.saiga.specs.Expressions.{Scope, headOf}
+use Rattle.expressions.specs.Noted.{WidthOf}
 use Rattle.expressions.specs.Widths.{shapeOf}
 use Rattle.expressions.proofs.Passing.{shape-moves, Ahead, one-ahead, none-ahead, more-inside, turn}
-use Rattle.engine.specs.Represents.{WidthOf}
 
 module _ (l : List ℕ) where
   abbrev shape : ℕ → ℕ
