@@ -22,8 +22,9 @@
 extern "C" {
 #endif
 
-/* Scratch that a caller lends: of a checked sheet, of what is noted of it, of a checked store, and of a run. What they hold is the library's affair and may change with it: a
- * caller makes them, lends them, and looks at nothing inside. */
+/* Scratch that a caller lends: of a checked sheet, of what is noted of it, of a checked store, and of a run. What they hold is the library's affair and
+ * may change with it: a caller makes them, lends them, and looks at nothing inside. They need not be cleared: a call asks nothing of what they hold
+ * but where it says so. */
 #define SOFRETU_SHEET_WORDS 33282
 #define SOFRETU_SHEET_NOTES 65536
 #define SOFRETU_STORE_WORDS 9216

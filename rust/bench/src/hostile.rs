@@ -186,6 +186,20 @@ pub fn widest_fan_out() -> Input {
     }
 }
 
+/// A sheet of 2,337 bytes with the most pairs of a node and an attribute, 32,768, each of which is looked for: rules of one byte define them all.
+pub fn most_pairs() -> Input {
+    let sheet = [
+        attribute(UNIT_TYPE, UNIT_TYPE).repeat(32),
+        node(0).repeat(1_024),
+        (0..32).flat_map(|a| rule(0, a, &UNIT)).collect(),
+        end(),
+    ];
+    Input {
+        sheet: sheet.concat(),
+        ..Input::default()
+    }
+}
+
 /// The hops along the ring that keep nothing, in a store that is full of what is not asked: 917,501 steps, each of which misses.
 pub fn full_store() -> Input {
     let entries = (0..1_021).flat_map(|number| entry(number, 19, 0, 0));
@@ -212,5 +226,6 @@ mod tests {
         assert_eq!(counts(&deepest_nesting()), (108_799, 0));
         assert_eq!(counts(&widest_fan_out()), (949_754, 0));
         assert_eq!(counts(&full_store()), (917_501, 1_021));
+        assert_eq!(most_pairs().sheet.len(), 2_337);
     }
 }

@@ -18,6 +18,7 @@ const DENSE: &str = "Step: AttrApp-dense, a store of 1,024 fills";
 const NO_STORE: &str = "Step: capacity 0";
 const CHOICES: &str = "Step: IF- and application-dense";
 const FULL_CHECK: &str = "Store check, 1,024 entries";
+const SMALL_SHEET: &str = "Sheet check, a byte of 1 KiB";
 
 pub struct Row {
     pub name: &'static str,
@@ -92,7 +93,7 @@ pub fn ordinary(left: impl Fn(&Input) -> Input) -> Vec<Row> {
             Run,
             kib(64),
         ),
-        row("Sheet check, a byte of 1 KiB", CheckSheet, Byte, kib(1)),
+        row(SMALL_SHEET, CheckSheet, Byte, kib(1)),
         row("Sheet check, a byte of 16 KiB", CheckSheet, Byte, kib(16)),
         row("Sheet check, a byte of 64 KiB", CheckSheet, Byte, kib(64)),
         row("Store check, 0 entries", CheckStore, Run, with_kept(0)),
@@ -103,8 +104,8 @@ pub fn ordinary(left: impl Fn(&Input) -> Input) -> Vec<Row> {
 
 /// The rows for what a hostile owner would choose, each with the name of the ordinary row of its kind.
 pub fn hostile() -> Vec<(Row, &'static str)> {
-    use Per::{Run, Step};
-    use Work::{CheckStore, Kept, Question};
+    use Per::{Byte, Run, Step};
+    use Work::{CheckSheet, CheckStore, Kept, Question};
     let step = |name, input, kind| (row(name, Question, Step, input), kind);
     let check = |name, input| (row(name, CheckStore, Run, input), FULL_CHECK);
     vec![
@@ -152,6 +153,15 @@ pub fn hostile() -> Vec<(Row, &'static str)> {
             "Step: the widest fan-out",
             hostile::widest_fan_out(),
             NO_STORE,
+        ),
+        (
+            row(
+                "Sheet check, a byte with the most pairs",
+                CheckSheet,
+                Byte,
+                hostile::most_pairs(),
+            ),
+            SMALL_SHEET,
         ),
         check("Store check, 1,024 spread keys", hostile::spread()),
         check(
