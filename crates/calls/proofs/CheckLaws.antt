@@ -7,7 +7,7 @@ use native.Mathlib.Omega.{arith}
 use borrow.Author.Tests.{le-leb, lt-leb}
 use lib.Dec.{leb}
 use lib.ListN.{length, getD}
-use Rattle.saiga.specs.Limits.{sheetLimit, budgetLimit}
+use Rattle.saiga.specs.Limits.{sheetLimit, attributeLimit, nodeLimit, budgetLimit}
 use Rattle.saiga.specs.Expressions.{Expr}
 use Rattle.saiga.specs.Sheet.{Sheet, nodeCount, attributeCount, Checked, refused_at-place_, accepted, checkSheet}
 use Rattle.saiga.specs.Caching.{Entry}
@@ -190,6 +190,12 @@ module _ {sheet index : List ℕ} {attributes nodes : ℕ} (p : SheetWith sheet 
 
   pub attributes-fit : 3 * attributes ≤ length sheet
   attributes-fit = omega (arith, p .attributes-are, p .prepared .index-of .described .room)
+
+  pub attributes-few : attributes ≤ attributeLimit
+  attributes-few = omega (arith, p .attributes-are, p .prepared .index-of .described .attributes-bound)
+
+  pub nodes-few : nodes ≤ nodeLimit
+  nodes-few = omega (arith, p .nodes-are, p .prepared .index-of .described .nodes-bound)
 
   -- it is the one sheet that these bytes are
   pub same-sheet : (s : Sheet) → checkSheet sheet ≡ accepted s → p .prepared .of ≡ s

@@ -9,6 +9,7 @@ use stores::StoreCheck;
 ghost use mathlib.Core.Path.{_≡_};
 ghost use Prim.Native.Nat.{_*_, _≤_};
 ghost use lib.ListN.{length};
+ghost use Rattle.saiga.specs.Limits.{attributeLimit, nodeLimit};
 ghost use Rattle.saiga.specs.Sheet.{Sheet};
 ghost use Rattle.saiga.specs.Ask.{lent, asking};
 ghost use Rattle.calls.specs.Verdict.{SheetOf, fromBudget, FromStore, CallChecked};
@@ -29,7 +30,7 @@ pub fn check_question(
     question: &[u8],
     budget: usize,
 ) -> QuestionCheck
-    requires { ⌜ 3 * attributes ≤ length (now sheet) ⌝ }
+    requires { ⌜ (3 * attributes ≤ length (now sheet)) × (attributes ≤ attributeLimit) × (nodes ≤ nodeLimit) ⌝ }
     ensures { λ r. ⌜ ((s : Sheet) → SheetOf (now (sheet .entry)) attributes nodes s → r ≡ questionOf (s .attributes) (fromBudget s (asking (now (question .entry)) budget))) ⌝ }
 {
     if BUDGET_LIMIT < budget {
@@ -49,7 +50,7 @@ fn check_from_store(
     budget: usize,
     links: &mut [u16],
 ) -> Verdict
-    requires { ⌜ (3 * attributes ≤ length (now sheet)) × (length (now links) ≡ linksSize) ⌝ }
+    requires { ⌜ (3 * attributes ≤ length (now sheet)) × (attributes ≤ attributeLimit) × (nodes ≤ nodeLimit) × (length (now links) ≡ linksSize) ⌝ }
     ensures { λ r. ⌜ FromStore (now (sheet .entry)) attributes nodes (lent (now (store .entry)) kept) (asking (now (question .entry)) budget) (now (links .exit)) r ⌝ }
 {
     match stores::check(sheet, attributes, nodes, store, kept, links) {

@@ -13,10 +13,14 @@ use Rattle.saiga.specs.Types.{Attribute}
 use Rattle.expressions.specs.declared.Form.{Form}
 use Rattle.expressions.specs.declared.Form.the-variants.{Malformed, Reads}
 use Rattle.expressions.specs.declared.Formed.the-variants.{NoExpression, Expression}
-use Rattle.expressions.specs.Forms.{scopeOf, thisIn, parameterIn, formOf, formedOf}
+use Rattle.expressions.specs.Forms.{scopeOf, thisIn, parameterIn, declaredIn, nodesIn, formOf, formedOf}
+use Rattle.values.specs.Layout.{attributesIn}
 use Rattle.expressions.proofs.Composites.{FormAt, form-reads}
 
-module _ (nodes attributes : ℕ) (this parameter : Bool) (code : ℕ) (sig : List Attribute) (l : List ℕ) where
+module _ (nodes attributes : ℕ) (this parameter : Bool) (code : ℕ) (types : List ℕ) (l : List ℕ) where
+  abbrev sig : List Attribute
+  sig = attributesIn types attributes
+
   abbrev s : Scope
   s = scopeOf nodes attributes this parameter
 
@@ -27,12 +31,12 @@ module _ (nodes attributes : ℕ) (this parameter : Bool) (code : ℕ) (sig : Li
   unfolding readWhole formedOf
   whole-long h = rw (lt-leb (length l) expressionLimit h)
 
-  -- `read` is handed a number that says in one what the scope has of `this`, the parameter and its type
+  -- `read` is handed a number that says in one what the scope has, and the parameter's type
   module _ (h : length l ≤ expressionLimit) (within : ℕ) (code-is : within % 256 ≡ code) (this-is : thisIn within ≡ this)
-      (parameter-is : parameterIn within ≡ parameter) {r : Form}
-      (read : FormAt (scopeOf nodes attributes (thisIn within) (parameterIn within)) sig (baseOf (within % 256)) l r) where
+      (parameter-is : parameterIn within ≡ parameter) (declared-is : declaredIn within ≡ attributes) (nodes-is : nodesIn within ≡ nodes) {r : Form}
+      (read : FormAt (scopeOf (nodesIn within) (declaredIn within) (thisIn within) (parameterIn within)) (attributesIn types (declaredIn within)) (baseOf (within % 256)) l r) where
     f : FormAt s sig p l r
-    f = rw (code-is, this-is, parameter-is) at read
+    f = rw (code-is, this-is, parameter-is, declared-is, nodes-is) at read
 
     pub whole-malformed : r ≡ Malformed → NoExpression ≡ formedOf sig p (readWhole s l)
     unfolding readWhole formOf exactly formedOf

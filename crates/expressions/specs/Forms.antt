@@ -39,6 +39,13 @@ thisIn within = eqb (within / 256 % 2) 1
 abbrev pub parameterIn : ℕ → Bool
 parameterIn within = eqb (within / 512 % 2) 1
 
+-- and how many attributes and nodes are declared, of which there are at most 32 and 1,024
+abbrev pub declaredIn : ℕ → ℕ
+declaredIn within = within / 1024 % 64
+
+abbrev pub nodesIn : ℕ → ℕ
+nodesIn within = within / 65536
+
 -- the width and the type's number of what was read
 unfoldable pub formOf : List Attribute → Base → Reading → Form
 formOf sig p malformed = Malformed

@@ -10,13 +10,13 @@ ghost use mathlib.Core.Path.{_≡_};
 ghost use mathlib.Core.List.{List};
 ghost use Prim.Native.Nat.{ℕ, _+_, _*_, _%_, _≤_, _<_};
 ghost use lib.ListN.{length, drop};
-ghost use Rattle.saiga.specs.Limits.{expressionLimit};
+ghost use Rattle.saiga.specs.Limits.{attributeLimit, nodeLimit, expressionLimit};
 ghost use Rattle.saiga.specs.Values.{Base, boolT, nodeT, baseOf};
 ghost use Rattle.saiga.specs.Expressions.{Scope, Expr, base-literal, function-literal, if-head, application-head, attribute-head, headOf, reads, readExpr, readWhole};
 ghost use Rattle.saiga.specs.Types.{Attribute};
 ghost use Rattle.saiga.specs.Sheet.{Sheet, nodeCount};
 ghost use Rattle.saiga.specs.Ask.{checkQuestion};
-ghost use Rattle.expressions.specs.Forms.{scopeOf, thisIn, parameterIn, formOf, formAfter, formedOf, questionOf};
+ghost use Rattle.expressions.specs.Forms.{scopeOf, thisIn, parameterIn, declaredIn, nodesIn, formOf, formAfter, formedOf, questionOf};
 ghost use Rattle.expressions.specs.Noted.{Notes, NotesInside, NotesBehind, NotesWhole};
 ghost use Rattle.expressions.specs.Widths.{Starts, shapeOf};
 ghost use Rattle.values.specs.Layout.{attributesIn};
@@ -96,103 +96,64 @@ fn read_function(l: &[u8]) -> Form
 }
 
 // The three expressions of an IF.
-fn read_if(
-    types: &[u8],
-    attributes: usize,
-    nodes: usize,
-    within: u32,
-    l: &[u8],
-    notes: &mut [u8],
-    at: usize,
-) -> Form
-    requires { ⌜ 3 * attributes ≤ length (now types) ⌝ }
+fn read_if(types: &[u8], within: usize, l: &[u8], notes: &mut [u8], at: usize) -> Form
+    requires { ⌜ 3 * declaredIn within ≤ length (now types) ⌝ }
     requires { ⌜ (length (now l) ≤ expressionLimit) × (at + length (now l) ≤ length (now notes)) ⌝ }
     ensures { λ r. ⌜ ((k : ℕ) → length (now (l .entry)) ≤ k
-        → r ≡ formAfter (scopeOf nodes attributes (thisIn within) (parameterIn within)) (attributesIn (now (types .entry)) attributes) (baseOf (within % 256)) k if-head (now (l .entry))) ⌝ }
+        → r ≡ formAfter (scopeOf (nodesIn within) (declaredIn within) (thisIn within) (parameterIn within)) (attributesIn (now (types .entry)) (declaredIn within)) (baseOf (within % 256)) k if-head (now (l .entry))) ⌝ }
     ensures { λ r. ⌜ NotesInside 1 (now (l .entry)) at (now (notes .entry)) (now (notes .exit)) r ⌝ }
 {
-    let Form::Reads(m, c) = read(types, attributes, nodes, within, l, notes, at) else {
+    let Form::Reads(m, c) = read(types, within, l, notes, at) else {
         return Form::Malformed;
     };
-    let Form::Reads(n, t) = read(types, attributes, nodes, within, &l[m..], notes, at + m) else {
+    let Form::Reads(n, t) = read(types, within, &l[m..], notes, at + m) else {
         return Form::Malformed;
     };
     let both = m + n;
-    let Form::Reads(o, e) = read(
-        types,
-        attributes,
-        nodes,
-        within,
-        &l[both..],
-        notes,
-        at + both,
-    ) else {
+    let Form::Reads(o, e) = read(types, within, &l[both..], notes, at + both) else {
         return Form::Malformed;
     };
     Form::Reads(1 + m + n + o, numbers::if_number(c, t, e))
 }
 
 // The two expressions of an application.
-fn read_application(
-    types: &[u8],
-    attributes: usize,
-    nodes: usize,
-    within: u32,
-    l: &[u8],
-    notes: &mut [u8],
-    at: usize,
-) -> Form
-    requires { ⌜ 3 * attributes ≤ length (now types) ⌝ }
+fn read_application(types: &[u8], within: usize, l: &[u8], notes: &mut [u8], at: usize) -> Form
+    requires { ⌜ 3 * declaredIn within ≤ length (now types) ⌝ }
     requires { ⌜ (length (now l) ≤ expressionLimit) × (at + length (now l) ≤ length (now notes)) ⌝ }
     ensures { λ r. ⌜ ((k : ℕ) → length (now (l .entry)) ≤ k
-        → r ≡ formAfter (scopeOf nodes attributes (thisIn within) (parameterIn within)) (attributesIn (now (types .entry)) attributes) (baseOf (within % 256)) k application-head (now (l .entry))) ⌝ }
+        → r ≡ formAfter (scopeOf (nodesIn within) (declaredIn within) (thisIn within) (parameterIn within)) (attributesIn (now (types .entry)) (declaredIn within)) (baseOf (within % 256)) k application-head (now (l .entry))) ⌝ }
     ensures { λ r. ⌜ NotesInside 1 (now (l .entry)) at (now (notes .entry)) (now (notes .exit)) r ⌝ }
 {
-    let Form::Reads(m, f) = read(types, attributes, nodes, within, l, notes, at) else {
+    let Form::Reads(m, f) = read(types, within, l, notes, at) else {
         return Form::Malformed;
     };
-    let Form::Reads(n, x) = read(types, attributes, nodes, within, &l[m..], notes, at + m) else {
+    let Form::Reads(n, x) = read(types, within, &l[m..], notes, at + m) else {
         return Form::Malformed;
     };
     Form::Reads(1 + m + n, numbers::application_number(f, x))
 }
 
 // The attribute's number, and the expressions of the node and the parameter.
-fn read_attribute(
-    types: &[u8],
-    attributes: usize,
-    nodes: usize,
-    within: u32,
-    l: &[u8],
-    notes: &mut [u8],
-    at: usize,
-) -> Form
-    requires { ⌜ 3 * attributes ≤ length (now types) ⌝ }
+fn read_attribute(types: &[u8], within: usize, l: &[u8], notes: &mut [u8], at: usize) -> Form
+    requires { ⌜ 3 * declaredIn within ≤ length (now types) ⌝ }
     requires { ⌜ (length (now l) ≤ expressionLimit) × (at + length (now l) ≤ length (now notes)) ⌝ }
     ensures { λ r. ⌜ ((k : ℕ) → length (now (l .entry)) ≤ k
-        → r ≡ formAfter (scopeOf nodes attributes (thisIn within) (parameterIn within)) (attributesIn (now (types .entry)) attributes) (baseOf (within % 256)) k attribute-head (now (l .entry))) ⌝ }
+        → r ≡ formAfter (scopeOf (nodesIn within) (declaredIn within) (thisIn within) (parameterIn within)) (attributesIn (now (types .entry)) (declaredIn within)) (baseOf (within % 256)) k attribute-head (now (l .entry))) ⌝ }
     ensures { λ r. ⌜ NotesInside 2 (drop 1 (now (l .entry))) (at + 1) (now (notes .entry)) (now (notes .exit)) r ⌝ }
 {
     if l.len() == 0 {
         return Form::Malformed;
     }
     let a = l[0] as usize;
+    let attributes = within / 1024 % 64;
     if attributes <= a {
         return Form::Malformed;
     }
-    let Form::Reads(m, n) = read(types, attributes, nodes, within, &l[1..], notes, at + 1) else {
+    let Form::Reads(m, n) = read(types, within, &l[1..], notes, at + 1) else {
         return Form::Malformed;
     };
     let second = 1 + m;
-    let Form::Reads(o, x) = read(
-        types,
-        attributes,
-        nodes,
-        within,
-        &l[second..],
-        notes,
-        at + second,
-    ) else {
+    let Form::Reads(o, x) = read(types, within, &l[second..], notes, at + second) else {
         return Form::Malformed;
     };
     Form::Reads(2 + m + o, numbers::attribute_number(types, a, n, x))
@@ -200,19 +161,11 @@ fn read_attribute(
 
 // The expression at the front of e, by its head. The types of the attributes are read off their commands, `types`; `within` says in
 // one number, so that the recursion hands on few, what `within_of` puts into it.
-fn read_by_head(
-    types: &[u8],
-    attributes: usize,
-    nodes: usize,
-    within: u32,
-    e: &[u8],
-    notes: &mut [u8],
-    at: usize,
-) -> Form
-    requires { ⌜ 3 * attributes ≤ length (now types) ⌝ }
+fn read_by_head(types: &[u8], within: usize, e: &[u8], notes: &mut [u8], at: usize) -> Form
+    requires { ⌜ 3 * declaredIn within ≤ length (now types) ⌝ }
     requires { ⌜ (length (now e) ≤ expressionLimit) × (at + length (now e) ≤ length (now notes)) ⌝ }
     ensures { λ r. ⌜ ((k : ℕ) → length (now (e .entry)) ≤ k
-        → r ≡ formOf (attributesIn (now (types .entry)) attributes) (baseOf (within % 256)) (readExpr (scopeOf nodes attributes (thisIn within) (parameterIn within)) k (now (e .entry)))) ⌝ }
+        → r ≡ formOf (attributesIn (now (types .entry)) (declaredIn within)) (baseOf (within % 256)) (readExpr (scopeOf (nodesIn within) (declaredIn within) (thisIn within) (parameterIn within)) k (now (e .entry)))) ⌝ }
     ensures { λ r. ⌜ NotesBehind (now (e .entry)) at (now (notes .entry)) (now (notes .exit)) r ⌝ }
 {
     if e.len() == 0 {
@@ -230,11 +183,11 @@ fn read_by_head(
                 Form::Reads(5, 3)
             }
         }
-        0x13 => read_node(nodes, l),
+        0x13 => read_node(within / 65536, l),
         0x14 => read_function(l),
-        0x20 => read_if(types, attributes, nodes, within, l, notes, at + 1),
-        0x21 => read_application(types, attributes, nodes, within, l, notes, at + 1),
-        0x22 => read_attribute(types, attributes, nodes, within, l, notes, at + 1),
+        0x20 => read_if(types, within, l, notes, at + 1),
+        0x21 => read_application(types, within, l, notes, at + 1),
+        0x22 => read_attribute(types, within, l, notes, at + 1),
         0x30 => {
             if within / 256 % 2 == 1 {
                 Form::Reads(1, 4)
@@ -254,39 +207,32 @@ fn read_by_head(
 }
 
 // The expression at the front of e, with its width noted.
-fn read(
-    types: &[u8],
-    attributes: usize,
-    nodes: usize,
-    within: u32,
-    e: &[u8],
-    notes: &mut [u8],
-    at: usize,
-) -> Form
-    requires { ⌜ 3 * attributes ≤ length (now types) ⌝ }
+fn read(types: &[u8], within: usize, e: &[u8], notes: &mut [u8], at: usize) -> Form
+    requires { ⌜ 3 * declaredIn within ≤ length (now types) ⌝ }
     requires { ⌜ (length (now e) ≤ expressionLimit) × (at + length (now e) ≤ length (now notes)) ⌝ }
     ensures { λ r. ⌜ ((k : ℕ) → length (now (e .entry)) ≤ k
-        → r ≡ formOf (attributesIn (now (types .entry)) attributes) (baseOf (within % 256)) (readExpr (scopeOf nodes attributes (thisIn within) (parameterIn within)) k (now (e .entry)))) ⌝ }
+        → r ≡ formOf (attributesIn (now (types .entry)) (declaredIn within)) (baseOf (within % 256)) (readExpr (scopeOf (nodesIn within) (declaredIn within) (thisIn within) (parameterIn within)) k (now (e .entry)))) ⌝ }
     ensures { λ r. ⌜ Notes (now (e .entry)) at (now (notes .entry)) (now (notes .exit)) r ⌝ }
 {
-    let Form::Reads(w, t) = read_by_head(types, attributes, nodes, within, e, notes, at) else {
+    let Form::Reads(w, t) = read_by_head(types, within, e, notes, at) else {
         return Form::Malformed;
     };
     notes[at] = (w - 1) as u8;
     Form::Reads(w, t)
 }
 
-fn flag(b: bool, n: u32) -> u32
+fn flag(b: bool, n: usize) -> usize
     ensures { λ r. ⌜ r ≡ cond b n 0 ⌝ }
 {
     if b { n } else { 0 }
 }
 
-// Whether 0x30 and 0x31 may be used, and the code of the parameter's type, in one number.
-fn within_of(this: bool, parameter: bool, p: u8) -> u32
-    ensures { λ r. ⌜ (thisIn r ≡ this) × (parameterIn r ≡ parameter) × (r % 256 ≡ p) ⌝ }
+// The code of the parameter's type, whether 0x30 and 0x31 may be used, and how many attributes and nodes are declared, in one number.
+fn within_of(attributes: usize, nodes: usize, this: bool, parameter: bool, p: u8) -> usize
+    requires { ⌜ (attributes ≤ attributeLimit) × (nodes ≤ nodeLimit) ⌝ }
+    ensures { λ r. ⌜ (thisIn r ≡ this) × (parameterIn r ≡ parameter) × (r % 256 ≡ p) × (declaredIn r ≡ attributes) × (nodesIn r ≡ nodes) ⌝ }
 {
-    p as u32 + flag(this, 256) + flag(parameter, 512)
+    p as usize + flag(this, 256) + flag(parameter, 512) + 1024 * attributes + 65536 * nodes
 }
 
 // The bytes as a whole: an expression of exactly their length, which is 1 to 256.
@@ -301,7 +247,7 @@ pub fn read_whole(
     notes: &mut [u8],
     at: usize,
 ) -> Formed
-    requires { ⌜ 3 * attributes ≤ length (now types) ⌝ }
+    requires { ⌜ (3 * attributes ≤ length (now types)) × (attributes ≤ attributeLimit) × (nodes ≤ nodeLimit) ⌝ }
     requires { ⌜ (length (now e) ≤ expressionLimit → at + length (now e) ≤ length (now notes)) ⌝ }
     ensures { λ r. ⌜ r ≡ formedOf (attributesIn (now (types .entry)) attributes) (baseOf p)
         (readWhole (scopeOf nodes attributes this parameter) (now (e .entry))) ⌝ }
@@ -310,8 +256,8 @@ pub fn read_whole(
     if EXPRESSION_LIMIT < e.len() {
         return Formed::NoExpression;
     }
-    let within = within_of(this, parameter, p);
-    let Form::Reads(w, t) = read(types, attributes, nodes, within, e, notes, at) else {
+    let within = within_of(attributes, nodes, this, parameter, p);
+    let Form::Reads(w, t) = read(types, within, e, notes, at) else {
         return Formed::NoExpression;
     };
     if w == e.len() {
@@ -329,7 +275,7 @@ fn question_noted(
     question: &[u8],
     notes: &mut [u8],
 ) -> QuestionCheck
-    requires { ⌜ 3 * attributes ≤ length (now types) ⌝ }
+    requires { ⌜ (3 * attributes ≤ length (now types)) × (attributes ≤ attributeLimit) × (nodes ≤ nodeLimit) ⌝ }
     requires { ⌜ (length (now question) ≤ expressionLimit → length (now question) ≤ length (now notes)) ⌝ }
     ensures { λ r. ⌜ ((s : Sheet) → s .attributes ≡ attributesIn (now (types .entry)) attributes → nodeCount s ≡ nodes
         → r ≡ questionOf (s .attributes) (checkQuestion s (now (question .entry)))) ⌝ }
@@ -365,7 +311,7 @@ pub fn check_question(
     nodes: usize,
     question: &[u8],
 ) -> QuestionCheck
-    requires { ⌜ 3 * attributes ≤ length (now types) ⌝ }
+    requires { ⌜ (3 * attributes ≤ length (now types)) × (attributes ≤ attributeLimit) × (nodes ≤ nodeLimit) ⌝ }
     ensures { λ r. ⌜ ((s : Sheet) → s .attributes ≡ attributesIn (now (types .entry)) attributes → nodeCount s ≡ nodes
         → r ≡ questionOf (s .attributes) (checkQuestion s (now (question .entry)))) ⌝ }
 {

@@ -23,7 +23,7 @@ ghost use Rattle.sofretu.specs.Check.{numberOf, placeOf, sheetFound, Sto
 ghost use Rattle.sofretu.specs.Six.{inSigned, six};
 
 // The check of a call's arguments: 0, or the number of the stop that refuses them, 1 to 13, with its place in `place`. It takes some
-// 210 KB of stack.
+// 150 KB of stack.
 #[no_mangle]
 pub extern "C" fn sofretu_check(
     sheet: &[u8],
@@ -134,7 +134,7 @@ pub extern "C" fn sofretu_ask_in<'a>(
     lay(a, answer);
 }
 
-// A question call. It takes some 345 KB of stack.
+// A question call. Its scratch takes some 220 KB of stack.
 #[no_mangle]
 pub extern "C" fn sofretu_ask<'a>(
     sheet: &'a [u8],

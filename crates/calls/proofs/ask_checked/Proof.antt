@@ -1,6 +1,6 @@
 -- `calls::ask_checked` meets its contract: the refusals of the budget and the question, or the run; what it leaves is prepared for the next call.
 use borrow.Author.Needs.{needs}
-use Rattle.calls.proofs.CheckLaws.{SheetWith, counted, attributes-fit}
+use Rattle.calls.proofs.CheckLaws.{SheetWith, counted, attributes-fit, attributes-few, nodes-few}
 use Rattle.calls.proofs.Preparing.{refuses, refusal-keeps, scratch-as-lent, scratch-used, question-refused, question-accepts, askable, prepared-again}
 use Rattle.calls.proofs.ask_checked.Statement.{statement}
 use Rattle.calls.proofs.ask_checked.Tie as tie
@@ -25,7 +25,7 @@ ask-checked-spec =
     (tie.spec
     (λ c κs. search needs)
     (λ c κs. search needs)
-    (λ c κs. attributes-fit (known c))
+    (λ c κs. (attributes-fit (known c), attributes-few (known c), nodes-few (known c)))
     (λ c. search needs)
     (λ c κs. search needs)
     (λ c. search needs)

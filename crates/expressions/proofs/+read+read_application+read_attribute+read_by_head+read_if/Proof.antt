@@ -38,9 +38,9 @@ use Rattle.expressions.proofs.read_node.Reads as read-node
 use Rattle.expressions.proofs.+read+read_application+read_attribute+read_by_head+read_if.{statement}
 use Rattle.expressions.proofs.+read+read_application+read_attribute+read_by_head+read_if.Tie.{close}
 
--- All five have the same parameters; the fifth is the bytes.
+-- All five have the same parameters; the third is the bytes.
 abbrev measure : ℕ → Measures 3 ps ℕ
-measure more κs a = 3 * length (a .1 .1 .1 .1 .0 .now) + more
+measure more κs a = 3 * length (a .1 .1 .0 .now) + more
 
 -- what one that requires `pre` is given at the measure t, and what a call of it asks below t
 abbrev given-at : ℕ → In 3 ps → ℕ → In 3 ps
@@ -223,17 +223,24 @@ module _ (t : ℕ) where
 
   -- the place behind the reading of the condition, and that behind the first branch, from the one behind the next
   abbrev if-condition : read-if-lts.After-known-told2 if-claims (given-at 3 read-if.Pre t) read-if.Post → read-if-lts.After-known-told if-claims (given-at 3 read-if.Pre t) read-if.Post
-  if-condition c = let at-read2 = c .before .before .before in at-read2 .before .before .before .before .before
+  if-condition c =
+      let at-slice-known3 = c .before .before .before in
+      let at-read2 = at-slice-known3 .before .before in
+      at-read2 .before .before .before
 
   abbrev if-first : read-if-lts.After-known-told3 if-claims (given-at 3 read-if.Pre t) read-if.Post → read-if-lts.After-known-told2 if-claims (given-at 3 read-if.Pre t) read-if.Post
-  if-first c = let at-slice-known4 = c .before .before .before in at-slice-known4 .before .before .before .before .before
+  if-first c =
+      let at-slice-known4 = c .before .before .before in
+      let at-read3 = at-slice-known4 .before .before in
+      at-read3 .before .before .before
 
   -- Where the second branch is to be read, `omega` does not reach the arguments by itself.
   abbrev if-start : read-if-lts.After-known-told2 if-claims (given-at 3 read-if.Pre t) read-if.Post → read-if-lts.Start if-claims (given-at 3 read-if.Pre t) read-if.Post
   if-start c =
       let at-slice-known2 = if-condition c .before .before .before in
       let at-read-arg = at-slice-known2 .before .before .before in
-      at-read-arg .before .before .before .before
+      let at-slice-known = at-read-arg .before .before .before in
+      at-slice-known .before
 
   if-spec : {M : Type 1} → read-if-lts.Closed if-claims (given-at 3 read-if.Pre t) read-if.Post M
   if-spec =

@@ -1,5 +1,5 @@
 -- `checks::check` meets its contract: the refusals of the sheet, or what follows (CheckLaws.antt).
-use Rattle.calls.proofs.CheckLaws.{attributes-fit, sheet-prepared, sheet-stops, sheet-passes}
+use Rattle.calls.proofs.CheckLaws.{attributes-fit, attributes-few, nodes-few, sheet-prepared, sheet-stops, sheet-passes}
 use borrow.Author.Needs.{needs}
 use Rattle.calls.proofs.checks.check.Statement.{statement}
 use Rattle.calls.proofs.checks.check.Tie as tie
@@ -14,7 +14,9 @@ enum-known-attributes : tie.Need-enum-known-attributes
 enum-known-attributes c = search needs
 
 check-from-store-requires : tie.Need-check-from-store-requires
-check-from-store-requires c κs = (attributes-fit (sheet-prepared (c .before .before .before .check .ensures .0) (c .before .attributes .given .1)), search needs)
+check-from-store-requires c κs =
+    let p = sheet-prepared (c .before .before .before .check .ensures .0) (c .before .attributes .given .1) in
+    (attributes-fit p, attributes-few p, nodes-few p, search needs)
 
 returns : tie.Need-returns
 returns c =
