@@ -91,7 +91,8 @@ enum {
     SOFRETU_DEPTH = 16             /* an attribute was due inside 64 open ones */
 };
 
-/* One question with all its checks. Under stops 1 to 13 the store stays as it was lent. */
+/* One question with all its checks. Under stops 1 to 13 the store stays as it was lent. It makes its scratch on its stack and clears it, some 220 KB:
+ * for a small sheet that takes longer than all the rest. sofretu_ask_in does the same in the caller's scratch, which need not be cleared. */
 void sofretu_ask(const uint8_t *sheet, uint64_t sheet_len,
                  const uint8_t *question, uint64_t question_len,
                  uint8_t *store, uint64_t store_len, uint64_t kept,
