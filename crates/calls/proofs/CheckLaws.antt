@@ -41,11 +41,10 @@ unfolding verdictOf
 verdict-refused (refused n at-place p) e = cc
 verdict-refused (accepted c) e = other cc
 
-pub verdict-accepted : (C : Checked AcceptedCall) {attributes nodes : ℕ} → verdictOf C ≡ Accepted attributes nodes
-    → (c : AcceptedCall) × (C ≡ accepted c) × (attributeCount (c .sheet) ≡ attributes) × (nodeCount (c .sheet) ≡ nodes)
+pub verdict-accepted : (C : Checked AcceptedCall) → verdictOf C ≡ Accepted → (c : AcceptedCall) × (C ≡ accepted c)
 unfolding verdictOf
 verdict-accepted (refused n at-place p) e = other cc
-verdict-accepted (accepted c) e = (c, refl, cc, cc)
+verdict-accepted (accepted c) e = (c, refl)
 
 -- ---- The budget and the question
 
@@ -157,11 +156,11 @@ module _ {types : List ℕ} {attributes nodes : ℕ} {store : List ℕ} {kept : 
         }
 
     pub question-passes : {code : ℕ} → q ≡ for-question.Accepted code
-        → FromStore types attributes nodes (lent store kept) c links (Accepted attributes nodes)
+        → FromStore types attributes nodes (lent store kept) c links Accepted
     unfolding verdictOf _then-check_
     question-passes h =
         record {
-          answer = λ s of. rw (from-store s (lent store kept) c (entries-of s of .1), asked-accepted c asks s of h .1, of .attributes-count, of .nodes-count);
+          answer = λ s of. rw (from-store s (lent store kept) c (entries-of s of .1), asked-accepted c asks s of h .1);
           links-length = checked .size;
           linked = λ s of entries e. checked .linked passes;
         }
@@ -184,7 +183,6 @@ module _ {sheet index : List ℕ} {attributes nodes : ℕ} (p : SheetWith sheet 
   sheet-of =
       record {
         attributes-are = p .prepared .index-of .described .attributes-are ∙ ap (attributesIn sheet) (p .attributes-are);
-        attributes-count = p .attributes-are;
         nodes-count = p .nodes-are;
       }
 

@@ -55,13 +55,13 @@ module _ {sheet index notes question store links : List ℕ} {kept budget : ℕ}
   pub checked-refused : {number place : ℕ} → r ≡ Refused number place → checkCall sheet (lent store kept) (asking question budget) ≡ refused number at-place place
   checked-refused is = verdict-refused (checkCall sheet (lent store kept) (asking question budget)) (sym (checked .answer) ∙ is)
 
-  pub checked-accepts : {attributes nodes : ℕ} → r ≡ Accepted attributes nodes → (c : AcceptedCall) × (checkCall sheet (lent store kept) (asking question budget) ≡ accepted c)
-  checked-accepts is = let (c, accepts, _, _) = verdict-accepted (checkCall sheet (lent store kept) (asking question budget)) (sym (checked .answer) ∙ is) in (c, accepts)
+  pub checked-accepts : r ≡ Accepted → (c : AcceptedCall) × (checkCall sheet (lent store kept) (asking question budget) ≡ accepted c)
+  checked-accepts is = verdict-accepted (checkCall sheet (lent store kept) (asking question budget)) (sym (checked .answer) ∙ is)
 
-  pub checked-askable : {attributes nodes : ℕ} {memory : List ℕ} → r ≡ Accepted attributes nodes → length memory ≡ runSize
+  pub checked-askable : {memory : List ℕ} → r ≡ Accepted → length memory ≡ runSize
       → Askable sheet index notes question store links memory kept budget
   checked-askable is memory-length =
-      let (c, accepts, _, _) = verdict-accepted (checkCall sheet (lent store kept) (asking question budget)) (sym (checked .answer) ∙ is) in
+      let (c, accepts) = checked-accepts is in
       let found = passed sheet (lent store kept) (asking question budget) accepts in
       record {
         call = c;

@@ -5,7 +5,7 @@ use Prim.Native.Nat.{ℕ}
 use lib.ListN.{length}
 use Rattle.saiga.specs.Limits.{sheetLimit}
 use Rattle.saiga.specs.Expressions.{Expr}
-use Rattle.saiga.specs.Sheet.{Sheet, nodeCount, attributeCount, Checked, refused_at-place_, accepted, checkSheet}
+use Rattle.saiga.specs.Sheet.{Sheet, nodeCount, Checked, refused_at-place_, accepted, checkSheet}
 use Rattle.saiga.specs.Caching.{Entry}
 use Rattle.saiga.specs.Store.{checkStore}
 use Rattle.saiga.specs.Ask.{Lent, Call, _then-check_, checkBudget, checkQuestion, AcceptedCall, checkCall}
@@ -16,17 +16,16 @@ use Rattle.calls.specs.Prepared.{NotedSheet}
 use Rattle.calls.specs.declared.checks.Verdict.{Verdict}
 use Rattle.calls.specs.declared.checks.Verdict.the-variants.{Refused, Accepted}
 
--- the first stop with its place, or the numbers of attributes and nodes of the accepted sheet
+-- the first stop with its place, or that there is none
 unfoldable pub verdictOf : Checked AcceptedCall → Verdict
 verdictOf (refused number at-place place) = Refused number place
-verdictOf (accepted c) = Accepted (attributeCount (c .sheet)) (nodeCount (c .sheet))
+verdictOf (accepted c) = Accepted
 
 -- ---- The last links of the chain `checkCall`, each for every sheet of these attributes and nodes
 
 -- A sheet of these attributes and nodes, whose types stand in these bytes.
 pub record SheetOf (types : List ℕ) (attributes nodes : ℕ) (s : Sheet) : Type 0 where
   pub attributes-are : s .attributes ≡ attributesIn types attributes
-  pub attributes-count : attributeCount s ≡ attributes
   pub nodes-count : nodeCount s ≡ nodes
 
 -- stops 11 to 13

@@ -16,10 +16,10 @@ ghost use Rattle.calls.specs.Verdict.{SheetOf, fromBudget, FromStore, Ca
 ghost use Rattle.stores.specs.Keys.{linksSize};
 ghost use Rattle.expressions.specs.Forms.{questionOf};
 
-// The number and place of the first stop of 1 to 13, or the numbers of attributes and nodes of an accepted sheet.
+// The number and place of the first stop of 1 to 13 that refuses a call, or that none does.
 pub enum Verdict {
     Refused(u32, usize),
-    Accepted(usize, usize),
+    Accepted,
 }
 
 // Stops 11 to 13, for a sheet of these attributes and nodes, whose types stand in its bytes.
@@ -57,7 +57,7 @@ fn check_from_store(
         StoreCheck::Refused(number, place) => Verdict::Refused(number, place),
         StoreCheck::Accepted => match check_question(sheet, attributes, nodes, question, budget) {
             QuestionCheck::Refused(number) => Verdict::Refused(number, 0),
-            QuestionCheck::Accepted(_) => Verdict::Accepted(attributes, nodes),
+            QuestionCheck::Accepted(_) => Verdict::Accepted,
         },
     }
 }

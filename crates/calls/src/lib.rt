@@ -155,7 +155,7 @@ pub fn ask<'a>(
     let words: &mut [u64] = memory;
     match checks::check(sheet, question, store, kept, budget, index, notes, links) {
         Verdict::Refused(number, place) => refuse(number, place, kept),
-        Verdict::Accepted(_, _) => put(
+        Verdict::Accepted => put(
             sheet,
             index,
             notes,

@@ -53,7 +53,7 @@ pub extern "C" fn sofretu_check(
             *place = at as u64;
             number
         }
-        Verdict::Accepted(_, _) => {
+        Verdict::Accepted => {
             *place = 0;
             0
         }

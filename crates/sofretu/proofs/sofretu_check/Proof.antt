@@ -21,7 +21,7 @@ returns c = let is = verdict-refused _ (sym (c .before .before .before .check .e
 
 returns-2 : tie.Need-returns-2
 unfolding numberOf placeOf
-returns-2 c = let (call, is, _, _) = verdict-accepted _ (sym (c .before .before .check .ensures .answer) ∙ c .enum-told .given .1) in (ap numberOf (sym is), ap placeOf (sym is))
+returns-2 c = let (call, is) = verdict-accepted _ (sym (c .before .before .check .ensures .answer) ∙ c .enum-told .given .1) in (ap numberOf (sym is), ap placeOf (sym is))
 
 pub sofretu-check-spec : {M : Type 1} → statement M
 sofretu-check-spec =
