@@ -17,8 +17,8 @@ use Rattle.stores.specs.Walks.{Keyed, Free}
 use Rattle.stores.specs.Keys.{findKey, foundOf, FreeIn, EntryPut}
 use Rattle.stores.proofs.Searches.{nothing-found, found-at}
 use Rattle.engine.specs.declared.Registers.{Registers}
-use Rattle.engine.specs.Ready.{memoryOf, innermostPlace, innermostPair}
-use Rattle.engine.proofs.RunMemory.{form-at}
+use Rattle.engine.specs.Ready.{memoryOf, innermostPlace}
+use Rattle.engine.proofs.RunMemory.{form-at, node-fits, word-fits}
 use Rattle.engine.specs.Steps.{goes, appended, unlessFound, cacheWrite, closeForm}
 use Rattle.attributes.specs.Due.{WriteReady, CloseReady}
 
@@ -53,45 +53,39 @@ module _ (store : List ℕ) (kept : ℕ) (full : Bool) (is : full ≡ leb (lengt
     pub room-few : (links : List ℕ) → WriteReady store links kept → kept < entryLimit
     room-few links ready = omega (arith, room-stands, ready .short)
 
--- A form's numbers are a key of bytes.
-pub form-keyed : (store links run : List ℕ) (m : Registers) → CloseReady store links run m
-    → Keyed record { node = innermostPair run m / 32; attribute = innermostPair run m % 32; word = getD run (innermostPlace m + 1) 0 }
-form-keyed store links run m ready = record { node = ready .node .small; attribute = omega arith; word = ready .word-small }
+-- The numbers of the innermost form stand at `f`.
+module _ (run : List ℕ) (m : Registers) (f : ℕ) (is : f ≡ innermostPlace m) where
+  -- its occurrence
+  abbrev closing : Key
+  closing = record { node = getD run f 0 / 32; attribute = getD run f 0 % 32; word = getD run (f + 1) 0 }
 
--- A form is closed with what CacheWrite leaves.
-pub closes : (store run : List ℕ) (m : Registers) (store′ : List ℕ) (kept′ w : ℕ) → w ≡ toWord (m .value)
-    → (store′, kept′)
-    ≡ cacheWrite store (m .kept)
-    record { node = innermostPair run m / 32; attribute = innermostPair run m % 32; word = getD run (innermostPlace m + 1) 0 } w
-    → goes record {
-      returning = true;
-      at = getD run (innermostPlace m + 2) 0;
-      end = getD run (innermostPlace m + 3) 0;
-      frames = m .frames - 1;
-      forms = m .forms - 1;
-      kept = kept′;
-      steps = m .steps;
-      value = m .value;
-    } (memoryOf store′ run)
-    ≡ closeForm (memoryOf store run) m
-unfolding closeForm
-closes store run m store′ kept′ w is written =
-    let f = 4 * (m .forms - 1) in
-    rw (
-      ← form-at run f (innermostPlace m) refl,
-      ← form-at run (f + 1) (innermostPlace m + 1) (omega arith),
-      ← form-at run (f + 2) (innermostPlace m + 2) (omega arith),
-      ← form-at run (f + 3) (innermostPlace m + 3) (omega arith),
-    )
-    (ap
-    (λ (w : List ℕ × ℕ). goes record {
-      returning = true;
-      at = getD run (innermostPlace m + 2) 0;
-      end = getD run (innermostPlace m + 3) 0;
-      frames = m .frames - 1;
-      forms = m .forms - 1;
-      kept = w .1;
-      steps = m .steps;
-      value = m .value;
-    } (memoryOf (w .0) run))
-    (rw is at written))
+  pub form-keyed : (store links : List ℕ) → CloseReady store links run m → Keyed closing
+  form-keyed store links ready = record { node = node-fits run m f is (ready .node); attribute = omega arith; word = word-fits run m f is (ready .word-small) }
+
+  -- the registers when its value is given to the frame around it
+  abbrev closed : ℕ → Registers
+  closed kept′ =
+      record {
+        returning = true;
+        at = getD run (f + 2) 0;
+        end = getD run (f + 3) 0;
+        frames = m .frames - 1;
+        forms = m .forms - 1;
+        kept = kept′;
+        steps = m .steps;
+        value = m .value;
+      }
+
+  -- It is closed with what CacheWrite leaves.
+  pub closes : (store store′ : List ℕ) (kept′ w : ℕ) → w ≡ toWord (m .value) → (store′, kept′) ≡ cacheWrite store (m .kept) closing w
+      → goes (closed kept′) (memoryOf store′ run) ≡ closeForm (memoryOf store run) m
+  unfolding closeForm
+  closes store store′ kept′ w is-word written =
+      let k = 4 * (m .forms - 1) in
+      rw (
+        ← form-at run k f is,
+        ← form-at run (k + 1) (f + 1) (omega (arith, is)),
+        ← form-at run (k + 2) (f + 2) (omega (arith, is)),
+        ← form-at run (k + 3) (f + 3) (omega (arith, is)),
+      )
+      (ap (λ (w : List ℕ × ℕ). goes (closed (w .1)) (memoryOf (w .0) run)) (rw is-word at written))

@@ -23,7 +23,7 @@ use Rattle.stores.proofs.Searches.{nothing-found, found-at, found-below}
 use Rattle.values.specs.Packed.{valueIn}
 use Rattle.engine.specs.declared.Registers.{Registers}
 use Rattle.engine.specs.FrameWords.{formKind, heldAttribute, heldNode}
-use Rattle.engine.specs.Decode.{frameLimit}
+use Rattle.engine.specs.Decode.{formPlace}
 use Rattle.engine.specs.Ready.{memoryOf}
 use Rattle.engine.specs.CodeSteps.{keptIn}
 use Rattle.engine.proofs.RunMemory.{form-opened}
@@ -92,7 +92,7 @@ module _ (sheet index : List ℕ) (n a : ℕ) (rule : IndexedRule sheet index n 
   pub rule-short : (start : ℕ) → start ≡ place + 4 → start + length piece < 18446744073709551616
   rule-short start starts = omega (arith, starts, piece-length, here .room, here .short)
 
-  pub rule-runs : (store run : List ℕ) (m : Registers) (word start : ℕ) → FormReady run m → start ≡ place + 4
+  pub rule-runs : (store run : List ℕ) (m : Registers) (word start f : ℕ) → FormReady run m → start ≡ place + 4 → f ≡ formPlace (m .forms)
       → goes record {
         returning = false;
         at = start;
@@ -103,19 +103,14 @@ module _ (sheet index : List ℕ) (n a : ℕ) (rule : IndexedRule sheet index n 
         steps = m .steps + 1;
         value = m .value;
       } (memoryOf store
-      (set
-      (set
-      (set (set (set run (frameLimit + 4 * m .forms) (n * 32 + a)) (frameLimit + 4 * m .forms + 1) word) (frameLimit + 4 * m .forms + 2) (m .at))
-      (frameLimit + 4 * m .forms + 3)
-      (m .end))
-      (m .frames - 1)
-      formKind))
+      (set (set (set (set (set run f (n * 32 + a)) (f + 1) word) (f + 2) (m .at)) (f + 3) (m .end)) (m .frames - 1) formKind))
       ≡ openRule sheet index (memoryOf store run) m n a word
   unfolding openRule
-  rule-runs store run m word start ready starts =
+  rule-runs store run m word start f ready starts is =
       rw (
         starts,
         piece-length,
+        is,
         form-opened run (m .forms) (n * 32 + a) word (m .at) (m .end) store (m .frames - 1) formKind
             (omega (arith, ready .frame .inside, ready .frame .framed)),
       )

@@ -1,6 +1,5 @@
 // AttrApp and CacheWrite (document 01, "The steps"): an attribute's value is taken from the store, from its figure, or from its rule inside a
 // form; a form's value is kept.
-use engine::FRAME_LIMIT;
 use engine::Limits;
 use engine::Registers;
 use engine::Step;
@@ -81,7 +80,7 @@ pub fn close_form(store: &mut [u8], links: &mut [u16], memory: &[u64], m: Regist
     ensures { λ r. ⌜ goes r (memoryOf (now (store .exit)) (now (memory .entry))) ≡ closeForm (memoryOf (now (store .entry)) (now (memory .entry))) m ⌝ }
     ensures { λ r. ⌜ Linked (now (store .exit)) (r .kept) (now (links .exit)) ⌝ }
 {
-    let f = FRAME_LIMIT + 4 * (m.forms - 1);
+    let f = engine::frames::form_place(m.forms - 1);
     let pair = memory[f];
     let value = m.value;
     let key = Key {
@@ -112,7 +111,7 @@ fn open_rule(sheet: &[u8], index: &[u16], memory: &mut [u64], m: Registers, key:
     let a = key.attribute as usize;
     let piece = sheets::lookup::rule(sheet, index, n, a);
     let start = sheets::lookup::rule_start(sheet, index, n, a);
-    let f = FRAME_LIMIT + 4 * m.forms;
+    let f = engine::frames::form_place(m.forms);
     memory[f] = (n * ATTRIBUTE_LIMIT + a) as u64;
     memory[f + 1] = key.word as u64;
     memory[f + 2] = m.at as u64;

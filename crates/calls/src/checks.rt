@@ -75,7 +75,7 @@ pub fn check(
 ) -> Verdict
     ensures { λ r. ⌜ CallChecked (now (sheet .entry)) (lent (now (store .entry)) kept) (asking (now (question .entry)) budget) (now (index .exit)) (now (notes .exit)) (now (links .exit)) r ⌝ }
 {
-    let chains: &mut [u16] = links;
+    let cells: &mut [u16] = links;
     match sheets::check(sheet, index, notes) {
         SheetCheck::Refused(number, place) => Verdict::Refused(number, place),
         SheetCheck::Accepted(attributes, nodes) => check_from_store(
@@ -86,7 +86,7 @@ pub fn check(
             store,
             kept,
             budget,
-            chains,
+            cells,
         ),
     }
 }

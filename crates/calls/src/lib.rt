@@ -95,7 +95,8 @@ fn put<'a>(
     }
 }
 
-// A question to a sheet that was accepted, indexed and noted, and to a store that was checked and indexed: what `ask` answers, at the cost of the question's own check and its steps. The store is indexed afterwards with the kept number of the answer.
+// A question to a sheet that was accepted, indexed and noted, and to a store that was checked and indexed. The answer is that of `ask`. The call costs
+// the check of its question and the steps of its run. Afterwards the index of the store holds for the kept number of the answer.
 pub fn ask_checked<'a>(
     sheet: &'a [u8],
     index: &[u16],

@@ -23,7 +23,7 @@ use Rattle.engine.specs.FrameWords.{kindOf, ifKind, skipKind}
 use Rattle.engine.specs.Decode.{frameLimit, runSize, wordsIn, formsIn, sheetOf, formOccurrence, framesIn, modeOf, machineOf}
 use Rattle.engine.specs.Steps.{Memory}
 use Rattle.engine.specs.Represents.{Represents}
-use Rattle.engine.specs.Ready.{memoryOf, NodeReady, ParameterReady, HeadReady, ReadReady, FrameReady}
+use Rattle.engine.specs.Ready.{memoryOf, innermostPlace, NodeReady, ParameterReady, HeadReady, ReadReady, FrameReady}
 use Rattle.engine.specs.declared.Registers.{Registers}
 use Rattle.engine.proofs.Decoding.{WordOf, if-kind, skip-kind, top-frame, frames-count, innermost-form, rest-length}
 use Rattle.engine.proofs.RunMemory.{run-length, form-at}
@@ -119,9 +119,9 @@ module _ {sheet index question : List ℕ} {store : List ℕ} (run : List ℕ) {
         record {
           node = node-ready;
           declared = rw (form-at run (4 * (m .forms - 1)) _ refl) (omega (arith, declared, r .index-of .described .room));
-          word = rw (form-at run (4 * (m .forms - 1)) _ refl, form-at run (4 * (m .forms - 1) + 1) (frameLimit + 4 * (m .forms - 1) + 1) (omega arith)) (word-more _ _ (r .index-of .described .nodes-bound) is-word);
+          word = rw (form-at run (4 * (m .forms - 1)) _ refl, form-at run (4 * (m .forms - 1) + 1) (innermostPlace m + 1) (omega arith)) (word-more _ _ (r .index-of .described .nodes-bound) is-word);
           word-small =
-              rw (form-at run (4 * (m .forms - 1) + 1) (frameLimit + 4 * (m .forms - 1) + 1) (omega arith)) (word-small (nodeCount s) _ _ (omega (arith, r .index-of .described .nodes-bound)) is-word);
+              rw (form-at run (4 * (m .forms - 1) + 1) (innermostPlace m + 1) (omega arith)) (word-small (nodeCount s) _ _ (omega (arith, r .index-of .described .nodes-bound)) is-word);
         }
 
 -- ---- Reading a head

@@ -1,13 +1,19 @@
 -- The array of a run: what is read and written among its frames and among its forms.
+use mathlib.Core.Bool.{true}
 use mathlib.Core.List.{List}
 use mathlib.Core.Path.{_≡_, refl, sym, ap, _∙_}
-use Prim.Native.Nat.{ℕ, _+_, _*_, _-_, _≤_, _<_}
+use Prim.Native.Nat.{ℕ, _+_, _*_, _-_, _/_, _%_, _≤_, _<_}
 use native.Mathlib.Omega.{arith}
 use lib.ListN.{length, take, drop, getD, set, length-take, length-drop}
 use lib.Seq.{take-set-le, drop-set-lt, take-set-lt, drop-set-add, getD-take, getD-drop}
-use Rattle.engine.specs.Decode.{frameLimit, formsSize, runSize, wordsIn, formsIn}
-use Rattle.engine.specs.Steps.{Memory, goes, writeWord}
-use Rattle.engine.specs.Ready.{memoryOf}
+use Rattle.saiga.specs.declared.Value.{Value}
+use Rattle.saiga.specs.declared.Value.the-variants.{Node as node}
+use Rattle.saiga.specs.Limits.{nodeLimit}
+use Rattle.saiga.specs.Values.{wordLimit, baseOf, isWord, ofWord}
+use Rattle.values.specs.Layout.{parameterAt}
+use Rattle.engine.specs.Decode.{frameLimit, formsSize, runSize, formPlace, wordsIn, formsIn, formOccurrence}
+use Rattle.engine.specs.Steps.{Memory, goes, writeWord, thisNode, thisParameter}
+use Rattle.engine.specs.Ready.{memoryOf, innermostPlace, NodeReady, ParameterReady}
 use Rattle.engine.specs.declared.Registers.{Registers}
 
 -- ---- Lengths
@@ -35,6 +41,30 @@ pub form-at : (run : List ℕ) (i j : ℕ) → j ≡ frameLimit + i → getD run
 unfolding formsIn
 form-at run i j is = rw is (sym (getD-drop frameLimit run i 0))
 
+-- what stands at the place `f` of the innermost form
+module _ (run : List ℕ) (m : Registers) (f : ℕ) (is : f ≡ innermostPlace m) where
+  pub node-fits : NodeReady run m → getD run f 0 / 32 < 65536
+  node-fits ready = rw is (ready .small)
+
+  pub node-read : node (getD run f 0 / 32) ≡ thisNode (formsIn run) m
+  node-read = ap (λ x. node (x / 32)) (form-at run (4 * (m .forms - 1)) f is)
+
+  pub word-fits : getD run (innermostPlace m + 1) 0 < wordLimit → getD run (f + 1) 0 < wordLimit
+  word-fits small = rw is small
+
+  pub attribute-declared : (sheet : List ℕ) → ParameterReady sheet run m → 3 * (getD run f 0 % 32) + 3 ≤ length sheet
+  attribute-declared sheet ready = rw is (omega (arith, ready .declared))
+
+  module _ (sheet : List ℕ) (code : ℕ) (typed : code ≡ parameterAt sheet (getD run f 0 % 32)) where
+    pub word-typed : ParameterReady sheet run m → isWord nodeLimit (baseOf code) (getD run (f + 1) 0) ≡ true
+    word-typed ready = rw (typed, is) (ready .word)
+
+    pub parameter-read : (v : Value) → v ≡ ofWord (baseOf code) (getD run (f + 1) 0) → v ≡ thisParameter sheet (formsIn run) m
+    unfolding formOccurrence
+    parameter-read v of =
+        let k = 4 * (m .forms - 1) in
+        of ∙ rw (typed, form-at run k f is, form-at run (k + 1) (f + 1) (omega (arith, is)))
+
 -- ---- Writing
 
 pub frame-written : (store run : List ℕ) (i w : ℕ) → i < frameLimit → memoryOf store (set run i w) ≡ writeWord (memoryOf store run) i w
@@ -56,7 +86,7 @@ form-written run i j w is = rw is (drop-set-add frameLimit run i w)
 -- A form is opened: its four numbers are written behind those of the forms around it, and its frame's word.
 module _ (run : List ℕ) (k a b c d : ℕ) where
   abbrev place : ℕ
-  place = frameLimit + 4 * k
+  place = formPlace k
 
   abbrev one : List ℕ
   one = set run place a

@@ -46,6 +46,10 @@ formsSize = 4 * depthLimit
 abbrev pub runSize : ℕ
 runSize = frameLimit + formsSize
 
+-- where the numbers of a form begin, by how many forms are around it
+abbrev pub formPlace : ℕ → ℕ
+formPlace i = frameLimit + 4 * i
+
 unfoldable pub wordsIn : List ℕ → List ℕ
 wordsIn run = take frameLimit run
 

@@ -12,7 +12,7 @@ use Rattle.expressions.specs.Noted.{WidthOf}
 use Rattle.expressions.specs.Widths.{Starts, headWidth}
 use Rattle.engine.specs.FrameWords.{pairNode, pairAttribute}
 use Rattle.engine.specs.Represents.{Packs}
-use Rattle.engine.specs.Decode.{frameLimit, runSize, wordsIn, formsIn}
+use Rattle.engine.specs.Decode.{frameLimit, runSize, formPlace, wordsIn, formsIn}
 use Rattle.engine.specs.Steps.{Memory, writeWord}
 use Rattle.engine.specs.declared.Registers.{Registers}
 
@@ -24,7 +24,7 @@ memoryOf store run = record { store = store; words = wordsIn run; forms = formsI
 
 -- where its four numbers stand in the array of the run, and the first of them: its node and its attribute
 abbrev pub innermostPlace : Registers → ℕ
-innermostPlace m = frameLimit + 4 * (m .forms - 1)
+innermostPlace m = formPlace (m .forms - 1)
 
 abbrev pub innermostPair : List ℕ → Registers → ℕ
 innermostPair run m = getD run (innermostPlace m) 0

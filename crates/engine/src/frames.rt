@@ -1,10 +1,11 @@
-// A frame in a word: its kind, and eight times what it holds (specs/FrameWords.antt).
+// A frame in a word: its kind, and eight times what it holds (specs/FrameWords.antt); and the place of an open form.
 use saiga::limits::ATTRIBUTE_LIMIT;
 ghost use mathlib.Core.Path.{_≡_};
 ghost use Prim.Native.Nat.{_<_};
-ghost use Rattle.saiga.specs.Limits.{attributeLimit};
+ghost use Rattle.saiga.specs.Limits.{attributeLimit, depthLimit};
 ghost use Rattle.values.specs.Packed.{packedLimit};
 ghost use Rattle.engine.specs.FrameWords.{kindOf, rightWord, heldFunction, nodeWord, heldAttribute, parameterWord, heldNode};
+ghost use Rattle.engine.specs.Decode.{formPlace};
 
 // IF waits for its condition, an application for its function.
 pub const ON_IF: u64 = 0;
@@ -74,4 +75,12 @@ pub fn node(w: u64) -> u64
     ensures { λ r. ⌜ r ≡ heldNode w ⌝ }
 {
     w / NODE_AT % values::packed::LIMIT
+}
+
+// Where the four numbers of form i begin. The outermost form is form 0.
+pub fn form_place(i: usize) -> usize
+    requires { ⌜ i < depthLimit ⌝ }
+    ensures { λ r. ⌜ r ≡ formPlace i ⌝ }
+{
+    crate::FRAME_LIMIT + 4 * i
 }

@@ -51,7 +51,7 @@ pub enum Step {
 
 // The memory of a run is one array: the words of the frames, and behind them four numbers for each form that can be open: its node × 32 + attribute, its
 // parameter in four bytes, and where the piece around it goes on and ends.
-pub const FRAME_LIMIT: usize = (DEPTH_LIMIT + 1) * (EXPRESSION_LIMIT / 2);
+const FRAME_LIMIT: usize = (DEPTH_LIMIT + 1) * (EXPRESSION_LIMIT / 2);
 
 pub const RUN_SIZE: usize = FRAME_LIMIT + 4 * DEPTH_LIMIT;
 
@@ -146,7 +146,7 @@ fn this_node(memory: &[u64], m: Registers) -> Value
     requires { ⌜ NodeReady (now memory) m ⌝ }
     ensures { λ r. ⌜ r ≡ thisNode (formsIn (now (memory .entry))) m ⌝ }
 {
-    let f = FRAME_LIMIT + 4 * (m.forms - 1);
+    let f = frames::form_place(m.forms - 1);
     Value::Node((memory[f] / ATTRIBUTES) as u16)
 }
 
@@ -154,7 +154,7 @@ fn this_parameter(sheet: &[u8], memory: &[u64], m: Registers) -> Value
     requires { ⌜ ParameterReady (now sheet) (now memory) m ⌝ }
     ensures { λ r. ⌜ r ≡ thisParameter (now (sheet .entry)) (formsIn (now (memory .entry))) m ⌝ }
 {
-    let f = FRAME_LIMIT + 4 * (m.forms - 1);
+    let f = frames::form_place(m.forms - 1);
     let a = (memory[f] % ATTRIBUTES) as usize;
     values::value_of(values::parameter_at(sheet, a), memory[f + 1] as u32)
 }

@@ -14,8 +14,7 @@ open-rule-spec =
     (λ c. search needs)
     (λ c κs. search needs)
     (λ c κs. search needs)
-    (λ c. search needs)  -- the form's place
-    (λ c. search needs)
+    (λ c κs. search needs)  -- the form's place
     (λ c. search needs)  -- memory[f]
     (λ c. search needs)
     (λ c. search needs)
