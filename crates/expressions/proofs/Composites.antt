@@ -122,37 +122,40 @@ module _ (s : Scope) (sig : List Attribute) (p : Base) where
     unfolding readAfter whenever formOf
     attribute-short e = rw (lt-leb 1 (length l) (omega arith))
 
-    pub attribute-undeclared : (length l ≡ 0 → ⊥) → s .attributes ≤ getD l 0 0
-        → Malformed ≡ formAfter s sig p k attribute-head l
-    unfolding readAfter whenever formOf
-    attribute-undeclared n d = rw (le-leb 1 (length l) (omega arith), le-ltb (getD l 0 0) (s .attributes) d)
+    module _ {declared : ℕ} (is : declared ≡ s .attributes) (n : length l ≡ 0 → ⊥) where
+      pub attribute-undeclared : declared ≤ getD l 0 0 → Malformed ≡ formAfter s sig p k attribute-head l
+      unfolding readAfter whenever formOf
+      attribute-undeclared d = rw (le-leb 1 (length l) (omega arith), le-ltb (getD l 0 0) (s .attributes) (omega arith))
 
-    module _ (n : length l ≡ 0 → ⊥) (d : getD l 0 0 < s .attributes) where
-      pub attribute-stops : {r : Form} → FormAt s sig p (from l 1) r → r ≡ Malformed
-          → Malformed ≡ formAfter s sig p k attribute-head l
-      unfolding readAfter whenever
-      attribute-stops f e =
-          rw (le-leb 1 (length l) (omega arith), lt-ltb (getD l 0 0) (s .attributes) d) (stops (readExpr s k (drop 1 l)) _ (form-from l 1 f e k h))
+      module _ (d : getD l 0 0 < declared) where
+        below : getD l 0 0 < s .attributes
+        below = omega arith
 
-      pub attribute-stops-parameter : {q r : Form} {m n : ℕ} → FormAt s sig p (from l 1) q → q ≡ Reads m n → FormAt s sig p (from l (1 + m)) r
-          → r ≡ Malformed → Malformed ≡ formAfter s sig p k attribute-head l
-      unfolding readAfter whenever
-      attribute-stops-parameter {m} f e g b =
-          rw (le-leb 1 (length l) (omega arith), lt-ltb (getD l 0 0) (s .attributes) d)
-          (goes-on (readExpr s k (drop 1 l)) _ (form-from l 1 f e k h) λ N N∈.
-          stops _ _ (form-from l (1 + m) g b k h))
+        pub attribute-stops : {r : Form} → FormAt s sig p (from l 1) r → r ≡ Malformed
+            → Malformed ≡ formAfter s sig p k attribute-head l
+        unfolding readAfter whenever
+        attribute-stops f e =
+            rw (le-leb 1 (length l) (omega arith), lt-ltb (getD l 0 0) (s .attributes) below) (stops (readExpr s k (drop 1 l)) _ (form-from l 1 f e k h))
 
-      pub attribute-reads : length sig ≡ s .attributes → {q r : Form} {m n w x v : ℕ} → FormAt s sig p (from l 1) q → q ≡ Reads m n
-          → FormAt s sig p (from l (1 + m)) r → r ≡ Reads w x
-          → ((N X : Option Ty) → n ≡ inferredNumber N → x ≡ inferredNumber X
-          → v ≡ inferredNumber (inferAttribute (attributeAt sig (getD l 0 0)) N X))
-          → Reads (2 + m + w) v ≡ formAfter s sig p k attribute-head l
-      unfolding readAfter whenever formOf infer
-      attribute-reads count {m} {w} f e g b v =
-          rw (le-leb 1 (length l) (omega arith), lt-ltb (getD l 0 0) (s .attributes) d)
-          (goes-on (readExpr s k (drop 1 l)) _ (form-from l 1 f e k h) λ N N∈.
-          goes-on (readExpr s k (drop (1 + m) l)) _ (form-from l (1 + m) g b k h) λ X X∈.
-          ap (Reads (2 + m + w)) (rw (lt-ltb (getD l 0 0) (length sig) (omega arith)) (v _ _ N∈ X∈)))
+        pub attribute-stops-parameter : {q r : Form} {m n : ℕ} → FormAt s sig p (from l 1) q → q ≡ Reads m n → FormAt s sig p (from l (1 + m)) r
+            → r ≡ Malformed → Malformed ≡ formAfter s sig p k attribute-head l
+        unfolding readAfter whenever
+        attribute-stops-parameter {m} f e g b =
+            rw (le-leb 1 (length l) (omega arith), lt-ltb (getD l 0 0) (s .attributes) below)
+            (goes-on (readExpr s k (drop 1 l)) _ (form-from l 1 f e k h) λ N N∈.
+            stops _ _ (form-from l (1 + m) g b k h))
+
+        pub attribute-reads : length sig ≡ s .attributes → {q r : Form} {m n w x v : ℕ} → FormAt s sig p (from l 1) q → q ≡ Reads m n
+            → FormAt s sig p (from l (1 + m)) r → r ≡ Reads w x
+            → ((N X : Option Ty) → getD l 0 0 < s .attributes → n ≡ inferredNumber N → x ≡ inferredNumber X
+            → v ≡ inferredNumber (inferAttribute (attributeAt sig (getD l 0 0)) N X))
+            → Reads (2 + m + w) v ≡ formAfter s sig p k attribute-head l
+        unfolding readAfter whenever formOf infer
+        attribute-reads count {m} {w} f e g b v =
+            rw (le-leb 1 (length l) (omega arith), lt-ltb (getD l 0 0) (s .attributes) below)
+            (goes-on (readExpr s k (drop 1 l)) _ (form-from l 1 f e k h) λ N N∈.
+            goes-on (readExpr s k (drop (1 + m) l)) _ (form-from l (1 + m) g b k h) λ X X∈.
+            ap (Reads (2 + m + w)) (rw (lt-ltb (getD l 0 0) (length sig) (omega (arith, below))) (v _ _ below N∈ X∈)))
 
   -- ---- From the operands to the expression
 

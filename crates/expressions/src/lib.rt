@@ -45,6 +45,69 @@ pub enum QuestionCheck {
     Accepted(u32),
 }
 
+// ---- What a reader is told, in one number, so that the recursion hands on few
+
+// The code of the parameter's type stands below `THIS_AT`. Above it stand whether 0x30 and 0x31 may be used, and how many attributes and nodes are
+// declared.
+const THIS_AT: usize = 256;
+
+const PARAMETER_AT: usize = 512;
+
+const ATTRIBUTES_AT: usize = 1024;
+
+const NODES_AT: usize = 65536;
+
+const ATTRIBUTES_ROOM: usize = NODES_AT / ATTRIBUTES_AT;
+
+fn flag(b: bool, n: usize) -> usize
+    ensures { λ r. ⌜ r ≡ cond b n 0 ⌝ }
+{
+    if b { n } else { 0 }
+}
+
+fn within_of(attributes: usize, nodes: usize, this: bool, parameter: bool, p: u8) -> usize
+    requires { ⌜ (attributes ≤ attributeLimit) × (nodes ≤ nodeLimit) ⌝ }
+    ensures { λ r. ⌜ (thisIn r ≡ this) × (parameterIn r ≡ parameter) × (r % 256 ≡ p) × (declaredIn r ≡ attributes) × (nodesIn r ≡ nodes) ⌝ }
+{
+    p as usize
+        + flag(this, THIS_AT)
+        + flag(parameter, PARAMETER_AT)
+        + ATTRIBUTES_AT * attributes
+        + NODES_AT * nodes
+}
+
+fn parameter_type(within: usize) -> u8
+    ensures { λ r. ⌜ r ≡ within % 256 ⌝ }
+{
+    (within % THIS_AT) as u8
+}
+
+fn has_this(within: usize) -> bool
+    ensures { λ r. ⌜ r ≡ thisIn within ⌝ }
+{
+    within / THIS_AT % 2 == 1
+}
+
+fn has_parameter(within: usize) -> bool
+    ensures { λ r. ⌜ r ≡ parameterIn within ⌝ }
+{
+    within / PARAMETER_AT % 2 == 1
+}
+
+fn attributes_in(within: usize) -> usize
+    ensures { λ r. ⌜ r ≡ declaredIn within ⌝ }
+{
+    within / ATTRIBUTES_AT % ATTRIBUTES_ROOM
+}
+
+fn nodes_in(within: usize) -> usize
+    ensures { λ r. ⌜ r ≡ nodesIn within ⌝ }
+{
+    within / NODES_AT
+}
+
+// ---- The readers
+
 // The operand of a Bool: 0 or 1. The bytes l are those after the head, here and below.
 fn read_bool(l: &[u8]) -> Form
     ensures { λ r. ⌜ ((s : Scope) (sig : List Attribute) (p : Base) (k : ℕ)
@@ -145,8 +208,7 @@ fn read_attribute(types: &[u8], within: usize, l: &[u8], notes: &mut [u8], at: u
         return Form::Malformed;
     }
     let a = l[0] as usize;
-    let attributes = within / 1024 % 64;
-    if attributes <= a {
+    if attributes_in(within) <= a {
         return Form::Malformed;
     }
     let Form::Reads(m, n) = read(types, within, &l[1..], notes, at + 1) else {
@@ -159,8 +221,8 @@ fn read_attribute(types: &[u8], within: usize, l: &[u8], notes: &mut [u8], at: u
     Form::Reads(2 + m + o, numbers::attribute_number(types, a, n, x))
 }
 
-// The expression at the front of e, by its head. The types of the attributes are read off their commands, `types`; `within` says in
-// one number, so that the recursion hands on few, what `within_of` puts into it.
+// The expression at the front of e, by its head. The types of the attributes are read off their commands, `types`; `within` is what `within_of` puts
+// together.
 fn read_by_head(types: &[u8], within: usize, e: &[u8], notes: &mut [u8], at: usize) -> Form
     requires { ⌜ 3 * declaredIn within ≤ length (now types) ⌝ }
     requires { ⌜ (length (now e) ≤ expressionLimit) × (at + length (now e) ≤ length (now notes)) ⌝ }
@@ -183,21 +245,21 @@ fn read_by_head(types: &[u8], within: usize, e: &[u8], notes: &mut [u8], at: usi
                 Form::Reads(5, 3)
             }
         }
-        0x13 => read_node(within / 65536, l),
+        0x13 => read_node(nodes_in(within), l),
         0x14 => read_function(l),
         0x20 => read_if(types, within, l, notes, at + 1),
         0x21 => read_application(types, within, l, notes, at + 1),
         0x22 => read_attribute(types, within, l, notes, at + 1),
         0x30 => {
-            if within / 256 % 2 == 1 {
+            if has_this(within) {
                 Form::Reads(1, 4)
             } else {
                 Form::Malformed
             }
         }
         0x31 => {
-            if within / 512 % 2 == 1 {
-                Form::Reads(1, numbers::base_number((within % 256) as u8))
+            if has_parameter(within) {
+                Form::Reads(1, numbers::base_number(parameter_type(within)))
             } else {
                 Form::Malformed
             }
@@ -219,20 +281,6 @@ fn read(types: &[u8], within: usize, e: &[u8], notes: &mut [u8], at: usize) -> F
     };
     notes[at] = (w - 1) as u8;
     Form::Reads(w, t)
-}
-
-fn flag(b: bool, n: usize) -> usize
-    ensures { λ r. ⌜ r ≡ cond b n 0 ⌝ }
-{
-    if b { n } else { 0 }
-}
-
-// The code of the parameter's type, whether 0x30 and 0x31 may be used, and how many attributes and nodes are declared, in one number.
-fn within_of(attributes: usize, nodes: usize, this: bool, parameter: bool, p: u8) -> usize
-    requires { ⌜ (attributes ≤ attributeLimit) × (nodes ≤ nodeLimit) ⌝ }
-    ensures { λ r. ⌜ (thisIn r ≡ this) × (parameterIn r ≡ parameter) × (r % 256 ≡ p) × (declaredIn r ≡ attributes) × (nodesIn r ≡ nodes) ⌝ }
-{
-    p as usize + flag(this, 256) + flag(parameter, 512) + 1024 * attributes + 65536 * nodes
 }
 
 // The bytes as a whole: an expression of exactly their length, which is 1 to 256.

@@ -7,7 +7,6 @@ use mathlib.Core.Path.{refl}
 use Prim.Native.Nat.{ℕ, _+_, _*_, _<_}
 use native.Mathlib.Omega.{arith}
 use lib.ListN.{length}
-use borrow.Author.Tests.{eq-eqb, ne-eqb}
 use borrow.Author.Needs.{needs}
 use borrow.Fn.Kinds.{In}
 use borrow.Fn.PlainCycle.{Measures, is, falls, and}
@@ -28,6 +27,11 @@ use Rattle.expressions.proofs.read_by_head.Reads as read-by-head
 use Rattle.expressions.proofs.+read+read_application+read_attribute+read_by_head+read_if.Lts-read_by_head as read-by-head-lts
 use Rattle.expressions.proofs.read_if.Reads as read-if
 use Rattle.expressions.proofs.+read+read_application+read_attribute+read_by_head+read_if.Lts-read_if as read-if-lts
+use Rattle.expressions.proofs.nodes_in.Reads as nodes-in
+use Rattle.expressions.proofs.has_this.Reads as has-this
+use Rattle.expressions.proofs.has_parameter.Reads as has-parameter
+use Rattle.expressions.proofs.parameter_type.Reads as parameter-type
+use Rattle.expressions.proofs.attributes_in.Reads as attributes-in
 use Rattle.expressions.proofs.numbers.application_number.Reads as application-number
 use Rattle.expressions.proofs.numbers.attribute_number.Reads as attribute-number
 use Rattle.expressions.proofs.numbers.base_number.Reads as base-number
@@ -78,6 +82,8 @@ module _ (t : ℕ) where
   head-claims = (
     read-bool.Asked,
     read-bool.Learnt,
+    nodes-in.Asked,
+    nodes-in.Learnt,
     read-node.Asked,
     read-node.Learnt,
     read-function.Asked,
@@ -88,6 +94,12 @@ module _ (t : ℕ) where
     read-application.Post,
     asked-below 3 read-attribute.Pre t,
     read-attribute.Post,
+    has-this.Asked,
+    has-this.Learnt,
+    has-parameter.Asked,
+    has-parameter.Learnt,
+    parameter-type.Asked,
+    parameter-type.Learnt,
     base-number.Asked,
     base-number.Learnt,
   )
@@ -104,19 +116,22 @@ module _ (t : ℕ) where
       (λ c κs. search needs)  -- what the calls ask
       (λ c κs. search needs)
       (λ c κs. search needs)
-      (λ c. search needs)
       (λ c κs. search needs)
       (λ c. search needs)
       (λ c κs. search needs)
       (λ c. search needs)
       (λ c κs. search needs)
       (λ c. search needs)
+      (λ c κs. search needs)
+      (λ c κs. search needs)
+      (λ c κs. search needs)
+      (λ c κs. search needs)
       (λ c κs. search needs)
       (λ c. with-operand _ _ _ _ _ _ _ 0x10 (search) refl (read-after _ _ _ _ 0x10 (search) (search) λ k h. unit-reads _ _ _ _ _))
       (λ c. with-operand _ _ _ _ _ _ _ 0x11 (search) refl (read-after _ _ _ _ 0x11 (search) (search) λ k h. c .read-bool .ensures _ _ _ _))
       (λ c. (read-after _ _ _ _ 0x12 (search) (search) λ k h. operand-short _ _ _ _ intT _ (omega arith), search no-notes-behind))
       (λ c. with-operand _ _ _ _ _ _ _ 0x12 (search) refl (read-int _ _ _ _ (search) (search) (omega arith) (search)))
-      (λ c. with-operand _ _ _ _ _ _ _ 0x13 (search) refl (read-after _ _ _ _ 0x13 (search) (search) λ k h. c .read-node .ensures _ _ _ _ refl))
+      (λ c. with-operand _ _ _ _ _ _ _ 0x13 (search) refl (read-after _ _ _ _ 0x13 (search) (search) λ k h. c .read-node .ensures _ _ _ _ cc))
       (λ c. with-operand _ _ _ _ _ _ _ 0x14 (search) refl (read-after _ _ _ _ 0x14 (search) (search) λ k h. c .read-function .ensures _ _ _ _))
       (λ c. search needs)
       (λ c. (read-after _ _ _ _ 0x20 (search) (search) (search), search if-behind))
@@ -124,10 +139,10 @@ module _ (t : ℕ) where
       (λ c. (read-after _ _ _ _ 0x21 (search) (search) (search), search application-behind))
       (λ c. search needs)
       (λ c. (read-after _ _ _ _ 0x22 (search) (search) (search), search attribute-behind))
-      (λ c. with-operand _ _ _ _ _ _ _ 0x30 (search) refl (read-after _ _ _ _ 0x30 (search) (search) λ k h. this-reads _ _ _ _ _ (eq-eqb _ _ (c .if3 .taken))))
-      (λ c. (read-after _ _ _ _ 0x30 (search) (search) λ k h. this-refused _ _ _ _ _ (ne-eqb _ _ (c .if3 .left)), search no-notes-behind))
-      (λ c. with-operand _ _ _ _ _ _ _ 0x31 (search) refl (read-after _ _ _ _ 0x31 (search) (search) λ k h. parameter-reads _ _ _ _ _ (eq-eqb _ _ (c .before .if4 .taken)) (c .base-number .ensures)))
-      (λ c. (read-after _ _ _ _ 0x31 (search) (search) λ k h. parameter-refused _ _ _ _ _ (ne-eqb _ _ (c .if4 .left)), search no-notes-behind))
+      (λ c. with-operand _ _ _ _ _ _ _ 0x30 (search) refl (read-after _ _ _ _ 0x30 (search) (search) λ k h. this-reads _ _ _ _ _ cc))
+      (λ c. (read-after _ _ _ _ 0x30 (search) (search) λ k h. this-refused _ _ _ _ _ cc, search no-notes-behind))
+      (λ c. with-operand _ _ _ _ _ _ _ 0x31 (search) refl (read-after _ _ _ _ 0x31 (search) (search) λ k h. parameter-reads _ _ _ _ _ (cc) (cc)))
+      (λ c. (read-after _ _ _ _ 0x31 (search) (search) λ k h. parameter-refused _ _ _ _ _ cc, search no-notes-behind))
       (λ c. (read-no-head _ _ _ _ (search) (search), search no-notes-behind))
 
   -- ---- read_application
@@ -167,7 +182,7 @@ module _ (t : ℕ) where
   -- ---- read_attribute
 
   abbrev attribute-claims : read-attribute-lts.Claims
-  attribute-claims = (asked-below 2 read.Pre t, read.Post, attribute-number.Asked, attribute-number.Learnt)
+  attribute-claims = (attributes-in.Asked, attributes-in.Learnt, asked-below 2 read.Pre t, read.Post, attribute-number.Asked, attribute-number.Learnt)
 
   abbrev node-taken : read-attribute-lts.After-known-told attribute-claims (given-at 3 read-attribute.Pre t) read-attribute.Post → Taken
   node-taken c = let told = c .before .before in taken _ _ _ _ (told .before .before .before .read .ensures .0) (c .before .m .given .1)
@@ -181,6 +196,7 @@ module _ (t : ℕ) where
       (λ c. (λ k h. search attribute-short, search nothing-read))
       (λ c. search needs)  -- l[0] as usize
       (λ c. omega (arith, c .before .before .before .shared-slice-known2 .given 0))
+      (λ c κs. search needs)
       (λ c. (λ k h. search attribute-undeclared, search nothing-read))
       (λ c. search needs)  -- &l[1..]
       (λ c. search needs)
