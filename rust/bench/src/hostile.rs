@@ -213,7 +213,8 @@ pub fn full_store() -> Input {
 #[cfg(test)]
 mod tests {
     use super::*;
-    use crate::programs::counts;
+    use crate::programs::{counts, places};
+    use sofretu_sys::Place;
 
     #[test]
     fn the_counts_are_as_said() {
@@ -227,5 +228,45 @@ mod tests {
         assert_eq!(counts(&widest_fan_out()), (949_754, 0));
         assert_eq!(counts(&full_store()), (917_501, 1_021));
         assert_eq!(most_pairs().sheet.len(), 2_337);
+    }
+
+    /// How many entries the search for each key sees, when all fall into one bucket of the engine's index.
+    fn depths_in_one_bucket(input: &Input) -> Vec<usize> {
+        let places = places(input);
+        let depth = |place: &Place| {
+            assert_eq!(place.bucket, places[0].bucket);
+            place.depth
+        };
+        places.iter().map(depth).collect()
+    }
+
+    #[test]
+    fn the_keys_of_one_bucket_collide_in_the_engine() {
+        let depths = depths_in_one_bucket(&one_bucket());
+        assert_eq!(depths.len(), 1_024);
+        // The last of these is the one that is looked up.
+        let path: Vec<usize> = (1..=LONGEST_PATH).collect();
+        assert_eq!(depths[..LONGEST_PATH], path);
+        assert_eq!(depths.iter().max(), Some(&LONGEST_PATH));
+        let sum: usize = depths.iter().sum();
+        assert!(sum > 12 * depths.len(), "{sum} entries in all");
+        assert_eq!(depths_in_one_bucket(&one_bucket_by_questions()), depths);
+    }
+
+    #[test]
+    fn what_is_missed_in_one_bucket_lies_behind_the_longest_path() {
+        let (sought, _) = path();
+        let mut input = one_bucket_missed();
+        input.store.extend(entry(0, 0, sought as i32, 0));
+        input.kept += 1;
+        assert_eq!(depths_in_one_bucket(&input).last(), Some(&LONGEST_PATH));
+    }
+
+    #[test]
+    fn spread_keys_are_spread_in_the_engine() {
+        let places = places(&spread());
+        // The one that is looked up.
+        assert_eq!(places[511].depth, 1);
+        assert!(places.iter().all(|place| place.depth <= 2));
     }
 }

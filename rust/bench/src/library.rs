@@ -83,4 +83,10 @@ impl Store<'_, '_> {
         self.kept = answer[5] as u64;
         answer
     }
+
+    /// Where the kept entries lie in the library's index.
+    #[cfg(test)]
+    pub fn places(&self) -> Vec<sofretu_sys::Place> {
+        self.sheet.scratch.store.places(self.kept as usize)
+    }
 }

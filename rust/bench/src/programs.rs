@@ -255,6 +255,19 @@ impl Program for Oracle {
     }
 }
 
+/// Where the engine has an input's kept entries when its question is put.
+#[cfg(test)]
+pub fn places(input: &Input) -> Vec<sofretu_sys::Place> {
+    let mut scratch = Box::<library::Scratch>::default();
+    let mut sheet = scratch.check(&input.sheet).expect(CHECKED);
+    let mut bytes = input.store.clone();
+    let mut store = sheet.lend(&mut bytes, input.kept).expect(CHECKED);
+    for question in &input.before {
+        store.ask(question, BUDGET);
+    }
+    store.places()
+}
+
 /// Steps and kept of an input's question, which is answered with a value.
 #[cfg(test)]
 pub fn counts(input: &Input) -> (i64, i64) {

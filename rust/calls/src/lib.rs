@@ -1,4 +1,5 @@
-//! What a call takes, and the stops of its answer: shared by all Rust crates but the second evaluator, which has its own.
+//! What a call takes, the stops of its answer, and where the store's index has a key: shared by all Rust crates but the second evaluator,
+//! which rests on nothing.
 //!
 //! It is a crate because the twin, which does not link the library, shares it with the crates that do.
 //!
@@ -7,6 +8,7 @@
 #![warn(missing_docs)]
 #![cfg_attr(not(test), no_std)]
 
+pub mod index;
 mod stops;
 
 pub use stops::{Origin, Refusal, Stop};

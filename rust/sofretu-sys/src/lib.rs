@@ -10,9 +10,11 @@
 use std::mem::MaybeUninit;
 
 pub use calls::Call;
+pub use places::Place;
 
 #[cfg(test)]
 mod any_numbers;
+mod places;
 
 /// Document 01's six fields of an answer: number, place, type, value, steps, kept.
 pub type Fields = [i64; 6];

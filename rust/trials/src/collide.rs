@@ -1,53 +1,24 @@
-//! Keys of the store's index as a hostile owner would choose them: of one bucket, and along one path of digits. The index's functions
-//! are said again here, since anybody can read them.
+//! Keys of the store's index as a hostile owner would choose them, who can read its functions: of one bucket, and along one path of digits.
 
 use std::collections::HashSet;
 
-/// How many buckets there are.
-const BUCKETS: u64 = 1_024;
-/// The base of the digits that lead through a bucket.
-const BASE: u64 = 8;
-/// Where the attribute stands in the bits of a trail.
-const ATTRIBUTE: u32 = 33;
+pub use calls::index::Key;
+use calls::index::{ATTRIBUTE_BIT, BASE, BUCKETS};
+
 /// The entries of the longest path: one for each digit of the trail of a declared node's attribute, and one.
 pub const LONGEST_PATH: usize = 14;
 /// The attributes that `of_one_bucket` names, from 0 on.
 pub const ATTRIBUTES: u8 = 16;
 
-/// What an entry is found by.
-#[derive(Clone, Copy, Debug, PartialEq, Eq, Hash)]
-pub struct Key {
-    pub node: u16,
-    pub attribute: u8,
-    /// The parameter's four bytes as a number.
-    pub word: u32,
-}
-
-impl Key {
-    /// The key of a bucket with an attribute and a parameter: there is a node for each bucket.
-    fn in_bucket(bucket: u64, attribute: u8, word: u32) -> Key {
-        let turn = turn(attribute, word) % BUCKETS;
-        Key {
-            node: ((bucket + BUCKETS - turn) % BUCKETS) as u16,
-            attribute,
-            word,
-        }
-    }
-
-    pub fn bucket(self) -> u64 {
-        (u64::from(self.node) + turn(self.attribute, self.word)) % BUCKETS
-    }
-
-    /// The number whose digits lead through the bucket, the lowest first.
-    fn trail(self) -> u64 {
-        let [node, attribute] = [u64::from(self.node), u64::from(self.attribute)];
-        u64::from(self.word) + attribute + ((attribute + 256 * (node / BUCKETS)) << ATTRIBUTE)
-    }
-}
-
-/// How far an attribute and a parameter turn the buckets of the nodes.
-fn turn(attribute: u8, word: u32) -> u64 {
-    (u64::from(attribute) * 2_246_822_519 + u64::from(word) * 2_654_435_769) >> 22
+/// The key of a bucket with an attribute and a parameter: there is a node for each bucket.
+fn in_bucket(bucket: usize, attribute: u8, word: u32) -> Key {
+    let key = |node: usize| Key {
+        node: node as u16,
+        attribute,
+        word,
+    };
+    // The bucket of node 0 is how far the attribute and the parameter turn the buckets of all.
+    key((bucket + BUCKETS - key(0).bucket()) % BUCKETS)
 }
 
 /// How many entries the search for each key passes, its own among them, when the keys are appended in this order.
@@ -57,8 +28,8 @@ pub fn depths(keys: &[Key]) -> Vec<usize> {
         let mut rest = key.trail();
         let mut place = vec![key.bucket()];
         while !taken.insert(place.clone()) {
-            place.push(rest % BASE);
-            rest /= BASE;
+            place.push(rest as usize % BASE);
+            rest /= BASE as u64;
         }
         place.len()
     };
@@ -66,7 +37,7 @@ pub fn depths(keys: &[Key]) -> Vec<usize> {
 }
 
 /// A key of a node's attribute that falls into a bucket: its parameter has the lowest 22 bits that are given.
-pub fn of_pair(node: u16, attribute: u8, bucket: u64, bits: u32) -> Key {
+pub fn of_pair(node: u16, attribute: u8, bucket: usize, bits: u32) -> Key {
     let low = bits % (1 << 22);
     let key = |high: u32| Key {
         node,
@@ -91,9 +62,9 @@ pub fn of_one_bucket(node: u16, bits: u32) -> Vec<Key> {
     // The key whose trail differs in some bits of the lowest 32 and of the attribute.
     let other = |low: u32, attribute: u8| {
         let word = (sought.word ^ low) - u32::from(attribute);
-        Key::in_bucket(sought.bucket(), attribute, word)
+        in_bucket(sought.bucket(), attribute, word)
     };
-    let differing = |digit: u32| match (3 * digit).checked_sub(ATTRIBUTE) {
+    let differing = |digit: u32| match (3 * digit).checked_sub(ATTRIBUTE_BIT) {
         None => other(1 << (3 * digit), 0),
         Some(bit) => other(0, 1 << bit),
     };

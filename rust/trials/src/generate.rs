@@ -110,10 +110,7 @@ fn budget(rng: &mut Rng, steps: u64) -> u64 {
 #[cfg(test)]
 mod tests {
     use super::*;
-    use crate::collide::{depths, Key, LONGEST_PATH};
     use crate::engine::Oracle;
-    use oracle::store::ENTRY;
-    use std::ops::Range;
 
     #[test]
     fn a_seed_repeats_its_cases() {
@@ -162,54 +159,5 @@ mod tests {
             case.store.len() == 12_288 && case.kept == 0 && listed.kept == 1_024
         };
         assert!(with(&full));
-    }
-
-    /// The keys of a store's kept entries.
-    fn keys(store: &[u8], kept: u64) -> Vec<Key> {
-        let entries = store.chunks_exact(ENTRY).take(kept as usize);
-        let key = |entry: &[u8]| Key {
-            node: u16::from_le_bytes([entry[0], entry[1]]),
-            attribute: entry[2],
-            word: u32::from_le_bytes([entry[4], entry[5], entry[6], entry[7]]),
-        };
-        entries.map(key).collect()
-    }
-
-    /// How many keys the fullest bucket has, and the longest path.
-    fn collisions(keys: &[Key]) -> (usize, usize) {
-        let mut sizes = [0; 1_024];
-        for key in keys {
-            sizes[key.bucket() as usize] += 1;
-        }
-        let fullest = sizes.into_iter().max().unwrap_or(0);
-        // A path is no longer than its bucket.
-        let longest = match fullest {
-            ..LONGEST_PATH => None,
-            _ => depths(keys).into_iter().max(),
-        };
-        (fullest, longest.unwrap_or(0))
-    }
-
-    #[test]
-    fn keys_collide_by_questions_and_in_lent_stores() {
-        let cases: Vec<Case> = (0..1_500).map(|number| case(6, number)).collect();
-        let lent = cases
-            .iter()
-            .map(|case| collisions(&keys(&case.store, case.kept.min(1_024))));
-        let left = cases.iter().filter(|case| case.kept == 0).map(|case| {
-            let listed = case.clone().answered(&mut Oracle::default());
-            collisions(&keys(&listed.store, listed.kept))
-        });
-        for stores in [lent.collect::<Vec<_>>(), left.collect()] {
-            // A store with a key twice, whose paths are longer, is refused.
-            let with = |least: usize, paths: Range<usize>| {
-                stores
-                    .iter()
-                    .any(|(fullest, longest)| *fullest >= least && paths.contains(longest))
-            };
-            assert!(with(100, 1..LONGEST_PATH - 1), "one bucket");
-            assert!(with(200, 1..LONGEST_PATH + 1), "a full bucket");
-            assert!(with(1, LONGEST_PATH..LONGEST_PATH + 1), "one path");
-        }
     }
 }

@@ -1,13 +1,14 @@
 //! The frame machine (document 01, "The steps", with stops 14 to 16): heads are read until one is a value, and values are
 //! given to frames until one has an expression to step.
 
+use calls::index::Key;
 use calls::{Refusal, Stop};
 
 use crate::answers::Answer;
 use crate::bytes::{four, two};
 use crate::expressions::LONGEST;
 use crate::sheets::{Definition, Sheet};
-use crate::stores::{Found, Key, Store};
+use crate::stores::{Found, Store};
 use crate::values::{Function, Value, NULL};
 
 /// How many forms can be open.
@@ -220,7 +221,7 @@ fn evaluate(
                     let key = Key {
                         node,
                         attribute,
-                        parameter: value.word(),
+                        word: value.word(),
                     };
                     let word = match store.find(key) {
                         Found::Value(kept) => kept,
@@ -254,7 +255,7 @@ fn evaluate(
                     let key = Key {
                         node: form.node,
                         attribute: form.attribute,
-                        parameter: form.parameter.word(),
+                        word: form.parameter.word(),
                     };
                     store.write(key, value.word());
                     if open == 0 {

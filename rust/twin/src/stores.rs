@@ -1,5 +1,6 @@
 //! The store: its check (stops 9 and 10) with an index over the kept entries, by which an occurrence is found.
 
+use calls::index::{Key, BASE, BUCKETS};
 use calls::{Refusal, Stop};
 
 use crate::bytes::{four, two};
@@ -7,9 +8,6 @@ use crate::sheets::Sheet;
 
 const ENTRY: usize = 12;
 const MOST_ENTRIES: usize = 1_024;
-const BUCKETS: usize = 1_024;
-/// The base that a key's trail is written in.
-const BASE: usize = 8;
 /// The digits of a trail.
 const DIGITS: usize = 16;
 pub const LINKS_SIZE: usize = BUCKETS + BASE * MOST_ENTRIES;
@@ -25,33 +23,12 @@ pub struct Store<'a> {
     pub links: &'a mut Links,
 }
 
-/// An occurrence in the bytes of an entry.
-#[derive(Clone, Copy, PartialEq, Eq)]
-pub struct Key {
-    pub node: u16,
-    pub attribute: u8,
-    pub parameter: u32,
-}
-
-impl Key {
-    fn of(entry: &[u8; ENTRY]) -> Key {
-        Key {
-            node: two(entry, 0),
-            attribute: entry[2],
-            parameter: four(entry, 4),
-        }
-    }
-
-    fn bucket(self) -> usize {
-        let turn =
-            u64::from(self.attribute) * 2_246_822_519 + u64::from(self.parameter) * 2_654_435_769;
-        (u64::from(self.node) + turn / 4_194_304) as usize % BUCKETS
-    }
-
-    /// The number whose digits lead through the bucket, the lowest first: it tells apart the keys that the bucket does not.
-    fn trail(self) -> u64 {
-        let above = u64::from(self.attribute) + 256 * u64::from(self.node / 1_024);
-        u64::from(self.parameter) + u64::from(self.attribute) + 8_589_934_592 * above
+/// The key in the bytes of an entry.
+fn key_of(entry: &[u8; ENTRY]) -> Key {
+    Key {
+        node: two(entry, 0),
+        attribute: entry[2],
+        word: four(entry, 4),
     }
 }
 
@@ -83,7 +60,7 @@ impl<'a> Store<'a> {
         };
         for number in 0..kept as usize {
             let entry = &store.entries[number];
-            let key = Key::of(entry);
+            let key = key_of(entry);
             let faulty = Stop::StoreEntry.at(number as u64);
             if !is_entry(sheet, entry, key) {
                 return Err(faulty);
@@ -104,7 +81,7 @@ impl<'a> Store<'a> {
             0 => Found::Nothing(bucket),
             first => {
                 let entry = &self.entries[first - 1];
-                if Key::of(entry) == key {
+                if key_of(entry) == key {
                     return Found::Value(four(entry, 8));
                 }
                 self.find_below(first, key)
@@ -125,7 +102,7 @@ impl<'a> Store<'a> {
                 return Found::Nothing(link);
             }
             let entry = &self.entries[place - 1];
-            if Key::of(entry) == key {
+            if key_of(entry) == key {
                 return Found::Value(four(entry, 8));
             }
         }
@@ -146,7 +123,7 @@ impl<'a> Store<'a> {
             entry[..2].copy_from_slice(&key.node.to_le_bytes());
             entry[2] = key.attribute;
             entry[3] = 0;
-            entry[4..8].copy_from_slice(&key.parameter.to_le_bytes());
+            entry[4..8].copy_from_slice(&key.word.to_le_bytes());
             entry[8..].copy_from_slice(&value.to_le_bytes());
             self.link(free);
         }
@@ -167,8 +144,6 @@ fn is_entry(sheet: &Sheet, entry: &[u8; ENTRY], key: Key) -> bool {
     usize::from(key.node) < sheet.nodes
         && usize::from(key.attribute) < sheet.attributes
         && entry[3] == 0
-        && sheet
-            .parameter(key.attribute)
-            .has(key.parameter, sheet.nodes)
+        && sheet.parameter(key.attribute).has(key.word, sheet.nodes)
         && sheet.result(key.attribute).has(four(entry, 8), sheet.nodes)
 }

@@ -1,5 +1,6 @@
 //! Keys that collide in the store's index: sheets and questions that name them, and stores that hold them.
 
+use calls::index::BUCKETS;
 use oracle::sheet::MOST_NODES;
 use oracle::store::ENTRY;
 use oracle::values::{Base, Value};
@@ -57,7 +58,7 @@ fn keys(rng: &mut Rng) -> Vec<Key> {
     let bits = rng.draw() as u32;
     let mut keys = match rng.below(3) {
         0 => {
-            let bucket = rng.below(1_024) as u64;
+            let bucket = rng.below(BUCKETS);
             let mut drawn: Vec<u32> = (0..rng.between(2, 600))
                 .map(|_| rng.draw() as u32 % (1 << 22))
                 .collect();
