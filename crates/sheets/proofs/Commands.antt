@@ -11,6 +11,7 @@ use Rattle.saiga.specs.Values.{Base, unitT, boolT, intT, nodeT, baseCode, baseO
 use Rattle.saiga.specs.Expressions.{Expr, Whole, no-expression, expression, readWhole}
 use Rattle.saiga.specs.Types.{Attribute, infer, hasType}
 use Rattle.saiga.specs.Sheet.{Command, attribute-command, node-command, figure-command, rule-command, end-command, no-command, commandOf}
+use Rattle.values.specs.Cells.{emptied}
 use Rattle.values.specs.Layout.{resultAt, parameterAt, attributesIn}
 use Rattle.saiga.proofs.Inference.{hasType-sound, hasType-complete}
 use Rattle.expressions.specs.declared.Formed.{Formed}
@@ -20,7 +21,7 @@ use Rattle.expressions.proofs.TypeNumbers.{base-small, number-positive}
 use Rattle.sheets.specs.declared.Progress.{Progress}
 use Rattle.sheets.specs.declared.Read.{Read}
 use Rattle.sheets.specs.declared.Read.the-variants.{Stops, Ends, GoesOn}
-use Rattle.sheets.specs.Scan.{figurePlace, rulePlace, pieceAt, Scanned, stops_at-offset_, ends, goes-on, demand, scanAttribute, clearRow, scanNode, scanFigure, demandRule, scanRule, scanEnd, scanAt, scanCommand, ReadAs}
+use Rattle.sheets.specs.Scan.{figurePlace, rulePlace, pieceAt, Scanned, stops_at-offset_, ends, goes-on, demand, scanAttribute, scanNode, scanFigure, demandRule, scanRule, scanEnd, scanAt, scanCommand, ReadAs}
 
 -- ---- What the code reads
 
@@ -81,7 +82,7 @@ module _ (bytes : List ℕ) (p : Progress) (index : List ℕ) where
       unfolding scanNode demand
       node-kind more h = stopped (rw (le-leb _ _ early, le-leb _ _ long, lt-ltb _ _ more, lt-leb _ _ h))
 
-      pub node-goes-on : (after : List ℕ) → p .nodes < 1024 → getD bytes (p .at + 1) 0 ≤ 15 → (place : ℕ) → place ≡ figurePlace (p .nodes) 0 → after ≡ clearRow 32 place index
+      pub node-goes-on : (after : List ℕ) → p .nodes < 1024 → getD bytes (p .at + 1) 0 ≤ 15 → (place : ℕ) → place ≡ figurePlace (p .nodes) 0 → after ≡ emptied index place 32
           → ReadAs (GoesOn record { at = p .at + 2; part = 1; attributes = p .attributes; nodes = p .nodes + 1 }) after index (scanNode bytes p index)
       unfolding scanNode demand
       node-goes-on after more kind place here cleared = went-on (rw (le-leb _ _ early, le-leb _ _ long, lt-ltb _ _ more, le-leb _ _ kind, ← here, cleared))

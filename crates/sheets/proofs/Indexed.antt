@@ -2,10 +2,8 @@
 use mathlib.Core.Bool.{Bool, true, false, cond, _&&_}
 use mathlib.Core.Option.{Option, some}
 use mathlib.Core.List.{List, [], _∷_, _++_}
-use mathlib.Core.Logic.{_⊎_, inl, inr}
 use mathlib.Core.Path.{_≡_, refl, sym, ap, _∙_}
 use Prim.Native.Nat.{ℕ, zero, suc, _+_, _*_, _≤_, _<_}
-use native.Mathlib.Nat.{eq-or-lt-of-le}
 use native.Mathlib.Omega.{arith}
 use native.Mathlib.Numerals.{add-one}
 use lib.Dec.{eqb}
@@ -15,7 +13,7 @@ use borrow.Author.Tests.{eqb-true, eqb-false, eq-eqb, ne-eqb}
 use Rattle.saiga.specs.Values.{baseOf}
 use Rattle.saiga.specs.Types.{Attribute, attributeAt}
 use Rattle.saiga.specs.Sheet.{Sheet, nodeCount, attributeCount, figureFor, ruleFor, ruled, figured, definition}
-use Rattle.sheets.specs.Scan.{figurePlace, rulesAt, rulePlace, attributesPlace, nodesPlace, figureAt, pieceAt, indexed, clearRow, counted, FigureFits, RuleFits, Described, Indexed}
+use Rattle.sheets.specs.Scan.{figurePlace, rulesAt, rulePlace, attributesPlace, nodesPlace, figureAt, pieceAt, indexed, counted, FigureFits, RuleFits, Described, Indexed}
 use Rattle.values.proofs.Declared.{past, attributeIn, attribute-at}
 use Rattle.values.specs.Layout.{resultAt, parameterAt, kindAt, attributesIn, kindsIn}
 
@@ -38,27 +36,6 @@ kind-at l (suc n) zero h = refl
 kind-at l (suc n) (suc i) h = kind-at (drop 2 l) n i (omega arith) ∙ simp past
 
 -- ---- The index
-
-pub clear-length : (k i : ℕ) (index : List ℕ) → length (clearRow k i index) ≡ length index
-unfolding clearRow
-clear-length zero i index = refl
-clear-length (suc k) i index = clear-length k (suc i) (set index i 0) ∙ length-set index i 0
-
-pub clear-other : (k i j : ℕ) (index : List ℕ) → (i ≤ j → j < i + k → ⊥) → getD (clearRow k i index) j 0 ≡ getD index j 0
-unfolding clearRow
-clear-other zero i j index h = refl
-clear-other (suc k) i j index h =
-    clear-other k (suc i) j (set index i 0) (λ p q. h (omega arith) (omega arith)) ∙ getD-set-other index i j 0 0 λ e. h (omega arith) (omega arith)
-
-pub clear-same : (k i j : ℕ) (index : List ℕ) → i ≤ j → j < i + k → j < length index → getD (clearRow k i index) j 0 ≡ 0
-unfolding clearRow
-clear-same zero i j index p q r = absurd (omega arith)
-clear-same (suc k) i j index p q r = go (clear-same k (suc i) j (set index i 0)) (eq-or-lt-of-le p)
-  where
-    go : (i < j → j < suc i + k → j < length (set index i 0) → getD (clearRow k (suc i) (set index i 0)) j 0 ≡ 0)
-        → (i ≡ j) ⊎ (i < j) → getD (clearRow k (suc i) (set index i 0)) j 0 ≡ 0
-    go later (inl e) = clear-other k (suc i) j (set index i 0) (λ a b. omega arith) ∙ rw (← e) (getD-set-same index i 0 0 (omega arith))
-    go later (inr h) = later h (omega arith) (rw length-set r)
 
 -- A pair's place among rows of 32 settles the pair.
 module _ (c m n b a i j : ℕ) (p : b < 32) (q : a < 32) (at-i : i ≡ c + m * 32 + b) (at-j : j ≡ c + n * 32 + a) where

@@ -1,4 +1,3 @@
-pub mod Clearing
 pub mod Commands
 pub mod Gaps
 pub mod Indexed

@@ -10,7 +10,9 @@ use lib.ListN.{length, take, drop, getD, set, length-take}
 use lib.Seq.{getD-drop, getD-set-other}
 use borrow.Author.Tests.{ltb-true}
 use Rattle.saiga.specs.Values.{ofBytes, isWord, baseOf}
+use Rattle.values.specs.Cells.{emptied}
 use Rattle.values.specs.Layout.{resultAt}
+use Rattle.values.proofs.Cells.{emptied-inside, emptied-outside}
 use Rattle.expressions.specs.declared.Formed.{Formed}
 use Rattle.expressions.specs.declared.Formed.the-variants.{Expression}
 use Rattle.expressions.specs.Noted.{Noted, Before, NotesWhole}
@@ -20,9 +22,9 @@ use Rattle.sheets.specs.declared.Read.{Read}
 use Rattle.sheets.specs.declared.Read.the-variants.{Stops, Ends, GoesOn}
 use Rattle.sheets.specs.declared.SheetCheck.{SheetCheck}
 use Rattle.sheets.specs.declared.SheetCheck.the-variants.{Refused, Accepted}
-use Rattle.sheets.specs.Scan.{figurePlace, rulesAt, rulePlaces, rulePlace, attributesPlace, nodesPlace, indexSize, pieceAt, Scanned, stops_at-offset_, ends, goes-on, demand, scanAttribute, clearRow, scanNode, scanFigure, scanEnd, Reading, ReadAs, scanned, scanOf, missingFrom}
+use Rattle.sheets.specs.Scan.{figurePlace, rulesAt, rulePlaces, rulePlace, attributesPlace, nodesPlace, indexSize, pieceAt, Scanned, stops_at-offset_, ends, goes-on, demand, scanAttribute, scanNode, scanFigure, scanEnd, Reading, ReadAs, scanned, scanOf, missingFrom}
 use Rattle.sheets.specs.Notes.{RuleNoted, RulesNoted, NotedTo, NotesOn, ChecksNotes}
-use Rattle.sheets.proofs.Indexed.{clear-other, clear-same, stored-fits}
+use Rattle.sheets.proofs.Indexed.{stored-fits}
 
 -- ---- Commands that are no rules
 
@@ -47,7 +49,7 @@ module _ (p : Progress) (index : List ℕ) where
   node-steady bytes =
       demand-steady _ _ _ λ e. demand-steady _ _ _ λ f. demand-steady _ _ _ λ g.
       let few : p .nodes < 1024 = ltb-true (p .nodes) 1024 f in
-      (omega arith, λ place h. clear-other 32 (figurePlace (p .nodes) 0) place index (λ a b. omega arith))
+      (omega arith, λ place h. emptied-outside index (figurePlace (p .nodes) 0) 32 place (λ a b. omega arith))
 
   figure-steady : (bytes : List ℕ) → Reading bytes p → Steady p index (scanFigure bytes p index)
   unfolding scanFigure
@@ -132,10 +134,10 @@ module _ (bytes index notes notes′ : List ℕ) (p : Progress) (n place : ℕ) 
 -- ---- The pass
 
 -- no rule yet
-pub first-notes : (bytes first cleared notes : List ℕ) → length first ≡ indexSize → cleared ≡ clearRow rulePlaces rulesAt first → NotedTo bytes cleared notes 0
+pub first-notes : (bytes first cleared notes : List ℕ) → length first ≡ indexSize → cleared ≡ emptied first rulesAt rulePlaces → NotedTo bytes cleared notes 0
 first-notes bytes first cleared notes size e =
     let none-there : (place at : ℕ) → rulesAt ≤ place → place < attributesPlace → getD cleared place 0 ≡ suc at → ⊥ =
-    λ place at low high h. let empty : getD cleared place 0 ≡ 0 = rw e (clear-same rulePlaces rulesAt place first low (omega arith) (omega arith)) in omega arith in
+    λ place at low high h. let empty : getD cleared place 0 ≡ 0 = rw e (emptied-inside first rulesAt rulePlaces place low (omega arith) (omega arith)) in omega arith in
     record {
       rules = record { rule = λ place at low high h. absurd (none-there place at low high h) };
       stands = λ place at low high h. absurd (none-there place at low high h);
@@ -159,7 +161,7 @@ pub record NotedPass (bytes first index notes : List ℕ) (p : Progress) : Type 
   pub noted : NotedTo bytes index notes (p .at)
   pub size : length notes ≡ length first
 
-pub pass-start : (bytes first cleared notes : List ℕ) (p : Progress) → length first ≡ indexSize → cleared ≡ clearRow rulePlaces rulesAt first → p .at ≡ 0
+pub pass-start : (bytes first cleared notes : List ℕ) (p : Progress) → length first ≡ indexSize → cleared ≡ emptied first rulesAt rulePlaces → p .at ≡ 0
     → NotedPass bytes notes cleared notes p
 pass-start bytes first cleared notes p size e here = record { noted = rw here (first-notes bytes first cleared notes size e); size = refl }
 

@@ -9,12 +9,13 @@ use lib.ListN.{length, getD}
 use borrow.Author.Tests.{leb-true}
 use Rattle.saiga.specs.Expressions.{Whole, no-expression, expression}
 use Rattle.saiga.specs.Sheet.{Sheet, emptySheet, nodeCount, attributeCount, Read as SheetRead, Command, attribute-command, node-command, figure-command, rule-command, end-command, no-command, commandOf}
+use Rattle.values.specs.Cells.{emptied}
 use Rattle.sheets.specs.declared.Progress.{Progress}
 use Rattle.sheets.specs.declared.Read.{Read}
 use Rattle.sheets.specs.declared.Read.the-variants.{Stops, Ends, GoesOn}
 use Rattle.sheets.specs.declared.SheetCheck.{SheetCheck}
 use Rattle.sheets.specs.declared.SheetCheck.the-variants.{Refused}
-use Rattle.sheets.specs.Scan.{rulesAt, rulePlaces, indexSize, Scanned, stops_at-offset_, ends, goes-on, demand, scanAttribute, clearRow, scanNode, scanFigure, demandRule, scanRule, scanEnd, scanAt, scanCommand, missingFrom, Scan, scanned, scanFrom, start, Reading, ReadAs, Declared, scanOf}
+use Rattle.sheets.specs.Scan.{rulesAt, rulePlaces, indexSize, Scanned, stops_at-offset_, ends, goes-on, demand, scanAttribute, scanNode, scanFigure, demandRule, scanRule, scanEnd, scanAt, scanCommand, missingFrom, Scan, scanned, scanFrom, start, Reading, ReadAs, Declared, scanOf}
 use Rattle.sheets.proofs.Indexed.{kind-by-index}
 use Rattle.sheets.proofs.Scan.{progress, SoFar, Agrees, stop, end, next, next-agrees, start-so-far}
 
@@ -79,7 +80,7 @@ pub record Reached (bytes first : List ℕ) (p : Progress) (index : List ℕ) : 
   pub enough : length bytes < p .at + fuel
   pub rest : scanFrom fuel bytes p index ≡ scanFrom (suc (length bytes)) bytes start first
 
-pub reached-start : (bytes first cleared : List ℕ) → length bytes ≤ 65536 → length first ≡ indexSize → cleared ≡ clearRow rulePlaces rulesAt first
+pub reached-start : (bytes first cleared : List ℕ) → length bytes ≤ 65536 → length first ≡ indexSize → cleared ≡ emptied first rulesAt rulePlaces
     → Reached bytes cleared start cleared
 reached-start bytes first cleared short size e = record {
   sheet = emptySheet;
@@ -172,8 +173,8 @@ module _ (bytes first : List ℕ) (p : Progress) (index : List ℕ) (h : Reached
         let small : offset ≤ 1 = rw (← stops-as number offset told) at (next-moves bytes p index) in
         omega (arith, reached-reading .short, reached-reading .within)
 
-    pub pass-stops : (whole : List ℕ) (number offset : ℕ) → r ≡ Stops number offset → first ≡ clearRow rulePlaces rulesAt whole
-        → scanOf (Refused number (p .at + offset)) after ≡ scanFrom (suc (length bytes)) bytes start (clearRow rulePlaces rulesAt whole)
+    pub pass-stops : (whole : List ℕ) (number offset : ℕ) → r ≡ Stops number offset → first ≡ emptied whole rulesAt rulePlaces
+        → scanOf (Refused number (p .at + offset)) after ≡ scanFrom (suc (length bytes)) bytes start (emptied whole rulesAt rulePlaces)
     unfolding scanFrom
     pass-stops whole number offset told cleared =
         rw (kept-at-stop number offset told, ← cleared)
@@ -185,9 +186,9 @@ module _ (bytes first : List ℕ) (p : Progress) (index : List ℕ) (h : Reached
         rw (kept-at-end told)
         (left-over (scanned p index (missingFrom bytes index (p .attributes) (p .nodes) 0)) λ k same. rw (← ends-as told, scanFrom) at same)
 
-    pub pass-ends : (whole last : List ℕ) (check : SheetCheck) → r ≡ Ends → first ≡ clearRow rulePlaces rulesAt whole
+    pub pass-ends : (whole last : List ℕ) (check : SheetCheck) → r ≡ Ends → first ≡ emptied whole rulesAt rulePlaces
         → scanOf check last ≡ scanned p after (missingFrom bytes after (p .attributes) (p .nodes) 0)
-        → scanOf check last ≡ scanFrom (suc (length bytes)) bytes start (clearRow rulePlaces rulesAt whole)
+        → scanOf check last ≡ scanFrom (suc (length bytes)) bytes start (emptied whole rulesAt rulePlaces)
     pass-ends whole last check told cleared e = rw (← cleared) (e ∙ completed told)
 
     pub read-all : r ≡ Ends → ((n : ℕ) → n < p .nodes → Declared bytes after (p .attributes) n) × (Reading bytes p × (length after ≡ indexSize))

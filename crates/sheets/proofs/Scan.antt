@@ -21,9 +21,11 @@ use Rattle.saiga.proofs.Inference.{cond-passes}
 use Rattle.sheets.specs.declared.Progress.{Progress}
 use Rattle.sheets.specs.declared.SheetCheck.{SheetCheck}
 use Rattle.sheets.specs.declared.SheetCheck.the-variants.{Refused, Accepted}
-use Rattle.sheets.specs.Scan.{figurePlace, rulesAt, rulePlaces, rulePlace, indexSize, figureAt, pieceAt, indexed, Scanned, stops_at-offset_, ends, goes-on, demand, scanAttribute, clearRow, scanNode, scanFigure, demandRule, scanRule, scanEnd, scanAt, scanCommand, pairIndexed, isIndexed, missingAt, missingFrom, Scan, scanned, scanFrom, start, scanSheet, checkOf, Described, Indexed, scanOf, Checks}
+use Rattle.sheets.specs.Scan.{figurePlace, rulesAt, rulePlaces, rulePlace, indexSize, figureAt, pieceAt, indexed, Scanned, stops_at-offset_, ends, goes-on, demand, scanAttribute, scanNode, scanFigure, demandRule, scanRule, scanEnd, scanAt, scanCommand, pairIndexed, isIndexed, missingAt, missingFrom, Scan, scanned, scanFrom, start, scanSheet, checkOf, Described, Indexed, scanOf, Checks}
+use Rattle.values.specs.Cells.{emptied}
 use Rattle.values.specs.Layout.{resultAt, parameterAt, kindAt, attributesIn, kindsIn}
-use Rattle.sheets.proofs.Indexed.{attributes-snoc, kinds-snoc, clear-length, clear-other, clear-same, attribute-by-index, definition-by-index, figure-indexed, rule-indexed, counted-indexed}
+use Rattle.values.proofs.Cells.{emptied-length, emptied-inside, emptied-outside}
+use Rattle.sheets.proofs.Indexed.{attributes-snoc, kinds-snoc, attribute-by-index, definition-by-index, figure-indexed, rule-indexed, counted-indexed}
 
 -- ---- The pass for missing pairs
 
@@ -216,7 +218,7 @@ module _ (bytes : List ℕ) (s : Sheet) (at part : ℕ) (index : List ℕ) (h : 
       let d = h .declaring (omega (arith, tests)) in
       let here : 3 * attributeCount s + (2 * nodeCount s + 1) ≡ at + 1 = omega arith in
       next (rw length-append) (declared record {
-        size = clear-length 32 (figurePlace (nodeCount s) 0) index ∙ d .size;
+        size = emptied-length index (figurePlace (nodeCount s) 0) 32 ∙ d .size;
         short = d .short;
         attributes-are = d .attributes-are;
         kinds-are = rw (length-snoc, kinds-snoc, getD-drop, here, ← (d .kinds-are));
@@ -229,9 +231,9 @@ module _ (bytes : List ℕ) (s : Sheet) (at part : ℕ) (index : List ℕ) (h : 
         no-nodes = λ p. absurd (omega arith);
         no-figures = d .no-figures;
         no-rules = d .no-rules;
-        clear-rows = rw length-snoc (one-more _ (nodeCount s) (λ n p a q. clear-other 32 (figurePlace (nodeCount s) 0) (figurePlace n a) index (omega arith) ∙ d .clear-rows n p a q)
-            (λ a q. clear-same 32 (figurePlace (nodeCount s) 0) (figurePlace (nodeCount s) a) index (omega arith) (omega arith) (omega (arith, tests))));
-        clear-rules = λ k a p q. clear-other 32 (figurePlace (nodeCount s) 0) (rulePlace k a) index (omega (arith, tests)) ∙ d .clear-rules k a p q;
+        clear-rows = rw length-snoc (one-more _ (nodeCount s) (λ n p a q. emptied-outside index (figurePlace (nodeCount s) 0) 32 (figurePlace n a) (omega arith) ∙ d .clear-rows n p a q)
+            (λ a q. emptied-inside index (figurePlace (nodeCount s) 0) 32 (figurePlace (nodeCount s) a) (omega arith) (omega arith) (omega (arith, tests))));
+        clear-rules = λ k a p q. emptied-outside index (figurePlace (nodeCount s) 0) 32 (rulePlace k a) (omega (arith, tests)) ∙ d .clear-rules k a p q;
       }))
 
   figure-agrees : Agrees bytes at (readFigure s part (drop (at + 1) bytes)) (scanFigure bytes (progress s at part) index)
@@ -342,10 +344,10 @@ commands-agree bytes (suc k) s at part index h = go (commands-agree bytes k) _ _
         (finish (missingFrom bytes index (attributeCount s) (nodeCount s) 0))
     go ih r t e f (next same so-far) = rw (e, readCommands, f, scanFrom, drop-drop, same) (ih _ _ _ _ so-far)
 
-pub start-so-far : (bytes index : List ℕ) → length bytes ≤ 65536 → length index ≡ indexSize → SoFar bytes emptySheet 0 0 (clearRow rulePlaces rulesAt index)
+pub start-so-far : (bytes index : List ℕ) → length bytes ≤ 65536 → length index ≡ indexSize → SoFar bytes emptySheet 0 0 (emptied index rulesAt rulePlaces)
 unfolding attributesIn kindsIn
 start-so-far bytes index short size = declared record {
-  size = clear-length rulePlaces rulesAt index ∙ size;
+  size = emptied-length index rulesAt rulePlaces ∙ size;
   short = short;
   attributes-are = refl;
   kinds-are = refl;
@@ -359,7 +361,7 @@ start-so-far bytes index short size = declared record {
   no-figures = refl;
   no-rules = refl;
   clear-rows = λ n p. absurd (omega arith);
-  clear-rules = λ k a p q. clear-same rulePlaces rulesAt (rulePlace k a) index (omega arith) (omega arith) (omega arith);
+  clear-rules = λ k a p q. emptied-inside index rulesAt rulePlaces (rulePlace k a) (omega arith) (omega arith) (omega arith);
 }
 
 sheet-agrees : (bytes index : List ℕ) → length index ≡ indexSize → Outcome bytes (checkSheet bytes) (scanSheet bytes index)
@@ -368,10 +370,10 @@ sheet-agrees bytes index size = go (leb (length bytes) 65536) refl
   where
     go : (b : Bool) → leb (length bytes) 65536 ≡ b
         → Outcome bytes (cond b (readCommands (suc (length bytes)) emptySheet 0 0 bytes) (refused 1 at-place 0))
-        (cond b (scanFrom (suc (length bytes)) bytes start (clearRow rulePlaces rulesAt index)) record { check = Refused 1 0; index = index })
+        (cond b (scanFrom (suc (length bytes)) bytes start (emptied index rulesAt rulePlaces)) record { check = Refused 1 0; index = index })
     go false e = refl
     go true e =
-        commands-agree bytes (suc (length bytes)) emptySheet 0 0 (clearRow rulePlaces rulesAt index)
+        commands-agree bytes (suc (length bytes)) emptySheet 0 0 (emptied index rulesAt rulePlaces)
         (start-so-far bytes index (leb-true (length bytes) 65536 e) size)
 
 pub scan-checks : (bytes index : List ℕ) → length index ≡ indexSize → scanSheet bytes index .check ≡ checkOf (checkSheet bytes)
@@ -398,12 +400,12 @@ module _ (bytes index : List ℕ) where
       let e = long-refused bytes h in
       record { size = size; checked = rw e; indexes = λ s f. absurd (let z : _≡_ {A = ℕ} 0 1 = cc in omega arith) }
 
-  pass-is : length bytes ≤ 65536 → scanSheet bytes index ≡ scanFrom (suc (length bytes)) bytes start (clearRow rulePlaces rulesAt index)
+  pass-is : length bytes ≤ 65536 → scanSheet bytes index ≡ scanFrom (suc (length bytes)) bytes start (emptied index rulesAt rulePlaces)
   unfolding scanSheet
   pass-is h = rw (le-leb _ _ h)
 
   pub short-checks : (r : SheetCheck) (after : List ℕ) → length index ≡ indexSize → length after ≡ indexSize → length bytes ≤ 65536
-      → scanOf r after ≡ scanFrom (suc (length bytes)) bytes start (clearRow rulePlaces rulesAt index) → Checks bytes r after
+      → scanOf r after ≡ scanFrom (suc (length bytes)) bytes start (emptied index rulesAt rulePlaces) → Checks bytes r after
   short-checks r after size left h e =
       let same = e ∙ sym (pass-is h) in
       record {

@@ -22,6 +22,7 @@ use Rattle.sheets.specs.declared.lookup.FoundFigure.{FoundFigure}
 use Rattle.sheets.specs.declared.lookup.FoundFigure.the-variants.{Of, NoFigure}
 use Rattle.sheets.specs.declared.SheetCheck.{SheetCheck}
 use Rattle.sheets.specs.declared.SheetCheck.the-variants.{Refused, Accepted}
+use Rattle.values.specs.Cells.{emptied}
 use Rattle.values.specs.Layout.{resultAt, parameterAt, kindAt, attributesIn, kindsIn}
 
 -- ---- What stands where
@@ -81,18 +82,14 @@ scanAttribute bytes p index =
     (demand (ltb (getD bytes (at + 1) 0) 4 && ltb (getD bytes (at + 2) 0) 4) 4
     (goes-on record { at = at + 3; part = attribute-part; attributes = p .attributes + 1; nodes = p .nodes } index)))
 
--- A node's row of the index is cleared when the node is declared.
-unfoldable pub clearRow : ℕ → ℕ → List ℕ → List ℕ
-clearRow zero i index = index
-clearRow (suc k) i index = clearRow k (suc i) (set index i 0)
-
+-- A node's row of the index is emptied when the node is declared.
 unfoldable pub scanNode : List ℕ → Progress → List ℕ → Scanned
 scanNode bytes p index =
     let at = p .at in
     demand (leb (p .part) node-part && leb (at + 2) (length bytes)) 2
     (demand (ltb (p .nodes) nodeLimit) 3
     (demand (leb (getD bytes (at + 1) 0) lastKind) 4
-    (goes-on record { at = at + 2; part = node-part; attributes = p .attributes; nodes = p .nodes + 1 } (clearRow attributeLimit (figurePlace (p .nodes) 0) index))))
+    (goes-on record { at = at + 2; part = node-part; attributes = p .attributes; nodes = p .nodes + 1 } (emptied index (figurePlace (p .nodes) 0) attributeLimit))))
 
 unfoldable pub scanFigure : List ℕ → Progress → List ℕ → Scanned
 scanFigure bytes p index =
@@ -182,11 +179,11 @@ scanFrom (suc k) bytes p index =
 abbrev pub start : Progress
 start = record { at = 0; part = attribute-part; attributes = 0; nodes = 0 }
 
--- The rules' part of the index is cleared first.
+-- The rules' part of the index is emptied first.
 unfoldable pub scanSheet : List ℕ → List ℕ → Scan
 scanSheet bytes index =
     cond (leb (length bytes) sheetLimit)
-    (scanFrom (suc (length bytes)) bytes start (clearRow rulePlaces rulesAt index))
+    (scanFrom (suc (length bytes)) bytes start (emptied index rulesAt rulePlaces))
     record { check = Refused 1 0; index = index }
 
 -- ---- What it comes to

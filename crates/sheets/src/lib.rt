@@ -17,8 +17,9 @@ ghost use mathlib.Core.List.{List};
 ghost use Prim.Native.Nat.{ℕ, suc, _+_, _-_, _*_, _≤_, _<_};
 ghost use lib.ListN.{length, getD};
 ghost use Rattle.saiga.specs.Limits.{sheetLimit, attributeLimit, nodeLimit, lastKind};
+ghost use Rattle.values.specs.Cells.{emptied};
 ghost use Rattle.sheets.specs.Notes.{NotesOn, ChecksNotes};
-ghost use Rattle.sheets.specs.Scan.{figurePlace, rulesAt, rulePlaces, rulePlace, figureAt, pieceAt, indexed, indexSize, clearRow, scanAttribute, scanNode, scanFigure, scanRule, scanEnd, scanCommand, pairIndexed, missingAt, missingFrom, scanned, scanFrom, start, Reading, readOf, ReadAs, Declared, gapOf, scanOf, Checks, IndexedPair, IndexedRule, ruleNumber, figureOf};
+ghost use Rattle.sheets.specs.Scan.{figurePlace, rulesAt, rulePlaces, rulePlace, figureAt, pieceAt, indexed, indexSize, scanAttribute, scanNode, scanFigure, scanRule, scanEnd, scanCommand, pairIndexed, missingAt, missingFrom, scanned, scanFrom, start, Reading, readOf, ReadAs, Declared, gapOf, scanOf, Checks, IndexedPair, IndexedRule, ruleNumber, figureOf};
 
 // The last kind, as a byte of the sheet.
 const LAST_KIND_BYTE: u8 = LAST_KIND as u8;
@@ -66,19 +67,6 @@ fn wide(b: u8) -> usize
     b as usize
 }
 
-// `count` places of the index from `from` on are made empty.
-fn clear(index: &mut [u16], from: usize, count: usize)
-    requires { ⌜ from + count ≤ length (now index) ⌝ }
-    ensures { λ _. ⌜ now (index .exit) ≡ clearRow count from (now (index .entry)) ⌝ }
-{
-    let mut i = from;
-    let end = from + count;
-    while i < end {
-        index[i] = 0;
-        i += 1;
-    }
-}
-
 fn read_attribute(sheet: &[u8], p: Progress) -> Read
     requires { ⌜ Reading (now sheet) p ⌝ }
     ensures { λ r. ⌜ ((index : List ℕ) → ReadAs r index index (scanAttribute (now (sheet .entry)) p index)) ⌝ }
@@ -124,7 +112,7 @@ fn read_node(sheet: &[u8], index: &mut [u16], p: Progress) -> Read
     if LAST_KIND_BYTE < sheet[at + 1] {
         return Read::Stops(4, 0);
     }
-    clear(index, lookup::figure_place(p.nodes, 0), ATTRIBUTE_LIMIT);
+    values::clear(index, lookup::figure_place(p.nodes, 0), ATTRIBUTE_LIMIT);
     Read::GoesOn(Progress {
         at: at + 2,
         part: NODE_PART,
@@ -315,14 +303,14 @@ fn complete(sheet: &[u8], index: &mut [u16], p: Progress) -> SheetCheck
     SheetCheck::Refused(8, place)
 }
 
-// The commands from the front, then the pass for missing pairs. The rules' part of the index is cleared first.
+// The commands from the front, then the pass for missing pairs. The rules' part of the index is emptied first.
 fn read_commands(sheet: &[u8], index: &mut [u16], notes: &mut [u8]) -> SheetCheck
     requires { ⌜ (length (now sheet) ≤ sheetLimit) × (length (now index) ≡ indexSize) × (length (now sheet) ≤ length (now notes)) ⌝ }
     ensures { λ r. ⌜ scanOf r (now (index .exit))
-        ≡ scanFrom (suc (length (now (sheet .entry)))) (now (sheet .entry)) start (clearRow rulePlaces rulesAt (now (index .entry))) ⌝ }
+        ≡ scanFrom (suc (length (now (sheet .entry)))) (now (sheet .entry)) start (emptied (now (index .entry)) rulesAt rulePlaces) ⌝ }
     ensures { λ r. ⌜ ChecksNotes (now (sheet .entry)) r (now (index .exit)) (now (notes .exit)) ⌝ }
 {
-    clear(index, RULES_AT, RULE_PLACES);
+    values::clear(index, RULES_AT, RULE_PLACES);
     let mut p = Progress {
         at: 0,
         part: ATTRIBUTE_PART,

@@ -12,12 +12,13 @@ use borrow.Author.Tests.{lt-ltb, le-ltb, le-leb, lt-leb, eq-eqb, ne-eqb, not-tru
 use Rattle.saiga.specs.Values.{baseOf, isWord}
 use Rattle.saiga.specs.declared.Fields.{Fields}
 use Rattle.saiga.specs.Types.{attributeAt}
+use Rattle.values.specs.Cells.{emptied}
 use Rattle.values.specs.Layout.{resultAt, parameterAt, attributesIn}
 use Rattle.saiga.specs.Sheet.{Sheet, nodeCount, refused_at-place_, accepted}
 use Rattle.saiga.specs.Store.{isEntry, readEntries, checkStore}
 use Rattle.stores.specs.declared.Trial.{Trial}
 use Rattle.stores.specs.declared.Trial.the-variants.{Passes, Fails}
-use Rattle.stores.specs.Walks.{bucketCount, emptied, planted}
+use Rattle.stores.specs.Walks.{bucketCount, planted}
 use Rattle.stores.specs.Keys.{fieldsAt, keyIn, keyAt, entriesIn, isPassed, Linked, EntryTested, storeCheckOf, StoreChecked}
 use Rattle.stores.specs.declared.StoreCheck.the-variants.{Refused, Accepted}
 use Rattle.values.proofs.Declared.{attribute-at, attributes-count}

@@ -12,10 +12,12 @@ use lib.ListN.{length, take, getD, set, length-set}
 use lib.Seq.{getD-set-same, getD-set-other}
 use borrow.Author.Tests.{eqb-true, eqb-false, eq-eqb, ne-eqb, leb-true, leb-false}
 use Rattle.saiga.specs.Limits.{entryLimit}
+use Rattle.values.specs.Cells.{emptied}
+use Rattle.values.proofs.Cells.{emptied-length, emptied-inside, emptied-outside}
 use Rattle.stores.specs.declared.Key.{Key}
 use Rattle.stores.specs.declared.Found.{Found}
 use Rattle.stores.specs.declared.Found.the-variants.{At, Nothing}
-use Rattle.stores.specs.Walks.{bucketCount, fanOut, firstCell, cellOf, bucketOf, Keyed, keyDigits, trailOf, restAfter, digitAt, Agree, walk, Passes, Free, emptied, planted}
+use Rattle.stores.specs.Walks.{bucketCount, fanOut, firstCell, cellOf, bucketOf, Keyed, keyDigits, trailOf, restAfter, digitAt, Agree, walk, Passes, Free, planted}
 use Rattle.stores.specs.declared.Seen.{Seen}
 use Rattle.stores.specs.declared.Seen.the-variants.{Empty, Has, Other}
 use Rattle.stores.specs.Keys.{sameKey, keyAt, findKey, seenIn, foundOf, FreeIn, First, Below, Linked}
@@ -269,45 +271,6 @@ module _ (store : List ℕ) (k : ℕ) (index : List ℕ) (l : Linked store k ind
 
 -- ---- Cells are written
 
-module _ (index : List ℕ) (from : ℕ) where
-  pub emptied-length : (n : ℕ) → length (emptied index from n) ≡ length index
-  unfolding emptied
-  emptied-length zero = refl
-  emptied-length (suc n) = simp length-set (emptied-length n)
-
-  pub emptied-inside : (n c : ℕ) → from + n ≤ length index → from ≤ c → c < from + n → getD (emptied index from n) c 0 ≡ 0
-  unfolding emptied
-  emptied-inside zero c fits low high = absurd (omega arith)
-  emptied-inside (suc n) c fits low high = go (eqb c (from + n)) refl (emptied-inside n c)
-    where
-      go : (t : Bool) → eqb c (from + n) ≡ t
-          → (from + n ≤ length index → from ≤ c → c < from + n → getD (emptied index from n) c 0 ≡ 0) → getD (set (emptied index from n) (from + n) 0) c 0 ≡ 0
-      go true t rest = rw (eqb-true c (from + n) t) (getD-set-same (emptied index from n) (from + n) 0 0 (rw (emptied-length n) (omega arith)))
-      go false t rest = let other = eqb-false c (from + n) t in getD-set-other (emptied index from n) (from + n) c 0 0 other ∙ rest (omega arith) low (omega arith)
-
-  emptied-before : (n c : ℕ) → c < from → getD (emptied index from n) c 0 ≡ getD index c 0
-  unfolding emptied
-  emptied-before zero c h = refl
-  emptied-before (suc n) c h = getD-set-other (emptied index from n) (from + n) c 0 0 (omega arith) ∙ emptied-before n c h
-
-  -- The code empties them one after the other.
-  pub record Emptying (count : ℕ) (index′ : List ℕ) (n : ℕ) : Type 0 where
-    pub within : n ≤ count
-    pub size : length index′ ≡ length index
-    pub is : index′ ≡ emptied index from n
-
-  pub emptying-starts : (count : ℕ) → Emptying count index 0
-  unfolding emptied
-  emptying-starts count = record { within = omega arith; size = refl; is = refl }
-
-  module _ (count : ℕ) (index′ : List ℕ) (n : ℕ) (at : Emptying count index′ n) where
-    pub emptying-goes-on : n < count → Emptying count (set index′ (from + n) 0) (n + 1)
-    unfolding emptied
-    emptying-goes-on h = record { within = omega arith; size = simp length-set (at .size); is = rw (add-one, at .is) }
-
-    pub emptying-ends : count ≤ n → index′ ≡ emptied index from count
-    emptying-ends h = let end : n ≡ count = omega (arith, at .within, h) in rw (← end) (at .is)
-
 pub plants : (index : List ℕ) (cell k : ℕ) {cleared : List ℕ} → cleared ≡ emptied index (firstCell k) fanOut → set cleared cell (k + 1) ≡ planted index cell k
 plants index cell k e = rw e refl
 
@@ -316,7 +279,7 @@ module _ (index : List ℕ) (cell k : ℕ) (small : cell < firstCell k) (fits : 
   planted-here = getD-set-same (emptied index (firstCell k) fanOut) cell (k + 1) 0 (rw (emptied-length index (firstCell k) fanOut) (omega arith)) ∙ add-one k
 
   planted-before : (c : ℕ) → c < firstCell k → (c ≡ cell → ⊥) → getD (planted index cell k) c 0 ≡ getD index c 0
-  planted-before c h other = getD-set-other (emptied index (firstCell k) fanOut) cell c (k + 1) 0 other ∙ emptied-before index (firstCell k) fanOut c h
+  planted-before c h other = getD-set-other (emptied index (firstCell k) fanOut) cell c (k + 1) 0 other ∙ emptied-outside index (firstCell k) fanOut c (omega arith)
 
   planted-empty : (digit : ℕ) → digit < fanOut → getD (planted index cell k) (cellOf k digit) 0 ≡ 0
   planted-empty digit h =
@@ -493,7 +456,7 @@ module _ (store : List ℕ) (k : ℕ) (index : List ℕ) (l : Linked store k ind
 
 pub linked-none : (store index : List ℕ) {index′ : List ℕ} → length index ≡ 9216 → index′ ≡ emptied index 0 bucketCount → Linked store 0 index′
 linked-none store index size e =
-    let empty : (b : ℕ) → b < bucketCount → getD (emptied index 0 bucketCount) b 0 ≡ 0 = λ b h. emptied-inside index 0 bucketCount b (omega (arith, size)) (omega arith) h in
+    let empty : (b : ℕ) → b < bucketCount → getD (emptied index 0 bucketCount) b 0 ≡ 0 = λ b h. emptied-inside index 0 bucketCount b (omega arith) h (omega (arith, size)) in
     rw e record {
       size = emptied-length index 0 bucketCount ∙ size;
       few = omega arith;

@@ -4,6 +4,7 @@ use mathlib.Core.Path.{_≡_}
 use Prim.Native.Nat.{ℕ, zero, suc, _+_, _*_, _-_, _/_, _%_, _<_}
 use lib.ListN.{getD, set}
 use Rattle.saiga.specs.Values.{wordLimit}
+use Rattle.values.specs.Cells.{emptied}
 use Rattle.stores.specs.declared.Key.{Key}
 
 -- ---- Cells
@@ -79,11 +80,6 @@ pub record Free (index : List ℕ) (q : Key) (cell : ℕ) : Type 0 where
   pub empty : getD index cell 0 ≡ 0
 
 -- ---- Writing cells
-
--- n cells from one on are emptied
-unfoldable pub emptied : List ℕ → ℕ → ℕ → List ℕ
-emptied index from zero = index
-emptied index from (suc n) = set (emptied index from n) (from + n) 0
 
 -- Entry k is put into a cell, and its own cells are emptied.
 abbrev pub planted : List ℕ → ℕ → ℕ → List ℕ

@@ -12,7 +12,7 @@ ghost use Rattle.values.specs.Layout.{attributesIn};
 ghost use Rattle.saiga.specs.Limits.{entryWidth, entryLimit};
 ghost use Rattle.saiga.specs.Sheet.{Sheet, nodeCount};
 ghost use Rattle.saiga.specs.Store.{fieldBytes, isEntry};
-ghost use Rattle.stores.specs.Walks.{bucketCount, fanOut, cellOf, bucketOf, trailOf, Keyed, Free, emptied, planted};
+ghost use Rattle.stores.specs.Walks.{bucketCount, fanOut, cellOf, bucketOf, trailOf, Keyed, Free, planted};
 ghost use Rattle.stores.specs.declared.Seen.the-variants.{Other};
 ghost use Rattle.stores.specs.Keys.{linksSize, sameKey, fieldsAt, keyIn, keyAt, findKey, seenIn, foundOf, FreeIn, valueWord, putAt, Linked, EntryTested, StoreChecked, EntryPut};
 
@@ -221,24 +221,12 @@ pub fn find(store: &[u8], kept: usize, index: &[u16], key: Key) -> Found
     }
 }
 
-// `count` cells of the index from `from` on are emptied.
-fn clear(index: &mut [u16], from: usize, count: usize)
-    requires { ⌜ from + count ≤ length (now index) ⌝ }
-    ensures { λ _. ⌜ now (index .exit) ≡ emptied (now (index .entry)) from count ⌝ }
-{
-    let mut n = 0;
-    while n < count {
-        index[from + n] = 0;
-        n += 1;
-    }
-}
-
 // Entry `kept` is put into a free cell of the index, and its own cells are emptied.
 fn plant(index: &mut [u16], cell: usize, kept: usize)
     requires { ⌜ (length (now index) ≡ linksSize) × (kept < entryLimit) × (cell < linksSize) ⌝ }
     ensures { λ _. ⌜ now (index .exit) ≡ planted (now (index .entry)) cell kept ⌝ }
 {
-    clear(index, BUCKETS + FAN_OUT * kept, FAN_OUT);
+    values::clear(index, BUCKETS + FAN_OUT * kept, FAN_OUT);
     index[cell] = (kept + 1) as u16;
 }
 
@@ -308,7 +296,7 @@ pub fn check(
     if store.len() / ENTRY_WIDTH < kept {
         return StoreCheck::Refused(9, 0);
     }
-    clear(index, 0, BUCKETS);
+    values::clear(index, 0, BUCKETS);
     let mut i = 0;
     while i < kept {
         let Trial::Passes(cell) = test(types, attributes, nodes, store, i, index) else {

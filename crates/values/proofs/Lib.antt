@@ -4,3 +4,4 @@ pub mod TypeCodes
 pub mod Bytes
 pub mod Packing
 pub mod Declared
+pub mod Cells

@@ -11,6 +11,7 @@ ghost use Prim.Native.Nat.{_+_, _*_, _%_, _≤_, _<_};
 ghost use lib.IntN.{_+ℤ_, _-ℤ_};
 ghost use lib.ListN.{length, take, drop};
 ghost use lib.Seq.{sets};
+ghost use Rattle.values.specs.Cells.{emptied};
 ghost use Rattle.values.specs.Layout.{resultAt, parameterAt, kindAt};
 ghost use Rattle.saiga.specs.Limits.{nodeLimit};
 ghost use Rattle.saiga.specs.Values.{baseOf, functionOf, held as heldOf, truth as truthOf, number as numberOf, nodeOf, applyFunction, applyHolding, apply as applied, ofBytes, toBytes, signed as signedOf, unsigned as unsignedOf, isWord, ofWord, toWord, typeCode, decimal as decimalOf};
@@ -213,6 +214,18 @@ pub fn put_four(s: &mut [u8], at: usize, n: u32)
     s[at + 1] = low(n / 256);
     s[at + 2] = low(n / 256 / 256);
     s[at + 3] = low(n / 256 / 256 / 256);
+}
+
+// `count` cells of an index from `from` on are emptied.
+pub fn clear(index: &mut [u16], from: usize, count: usize)
+    requires { ⌜ from + count ≤ length (now index) ⌝ }
+    ensures { λ _. ⌜ now (index .exit) ≡ emptied (now (index .entry)) from count ⌝ }
+{
+    let mut n = 0;
+    while n < count {
+        index[from + n] = 0;
+        n += 1;
+    }
 }
 
 // The codes of attribute a's types: of its result and of its parameter.

@@ -1,10 +1,10 @@
--- `stores::clear` meets its contract. The loop's invariant: the cells passed are emptied (`Emptying`). The measure is what is left of the cells.
+-- `values::clear` meets its contract. The loop's invariant: the cells passed are emptied (`Emptying`). The measure is what is left of the cells.
 use Prim.Native.Nat.{_-_}
 use native.Mathlib.Omega.{arith}
 use borrow.Author.Needs.{needs}
-use Rattle.stores.proofs.Walks.{Emptying, emptying-starts, emptying-goes-on, emptying-ends}
-use Rattle.stores.proofs.clear.Statement.{statement}
-use Rattle.stores.proofs.clear.Tie as tie
+use Rattle.values.proofs.Cells.{Emptying, emptying-starts, emptying-goes-on, emptying-ends}
+use Rattle.values.proofs.clear.Statement.{statement}
+use Rattle.values.proofs.clear.Tie as tie
 
 abbrev Inv-loop : tie.InvT-loop
 Inv-loop index₀ from count n₀ index n = Emptying index₀ from count index n
