@@ -271,8 +271,9 @@ module _ (store : List ℕ) (k : ℕ) (index : List ℕ) (l : Linked store k ind
 
 -- ---- Cells are written
 
-pub plants : (index : List ℕ) (cell k : ℕ) {cleared : List ℕ} → cleared ≡ emptied index (firstCell k) fanOut → set cleared cell (k + 1) ≡ planted index cell k
-plants index cell k e = rw e refl
+pub plants : (index : List ℕ) (cell k : ℕ) {from : ℕ} {cleared : List ℕ} → from ≡ firstCell k → cleared ≡ emptied index from fanOut
+    → set cleared cell (k + 1) ≡ planted index cell k
+plants index cell k here e = rw (e, here) refl
 
 module _ (index : List ℕ) (cell k : ℕ) (small : cell < firstCell k) (fits : cellOf k fanOut ≤ length index) where
   planted-here : getD (planted index cell k) cell 0 ≡ suc k

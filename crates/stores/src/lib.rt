@@ -12,7 +12,7 @@ ghost use Rattle.values.specs.Layout.{attributesIn};
 ghost use Rattle.saiga.specs.Limits.{entryWidth, entryLimit};
 ghost use Rattle.saiga.specs.Sheet.{Sheet, nodeCount};
 ghost use Rattle.saiga.specs.Store.{fieldBytes, isEntry};
-ghost use Rattle.stores.specs.Walks.{bucketCount, fanOut, cellOf, bucketOf, trailOf, Keyed, Free, planted};
+ghost use Rattle.stores.specs.Walks.{bucketCount, fanOut, firstCell, cellOf, bucketOf, trailOf, Keyed, Free, planted};
 ghost use Rattle.stores.specs.declared.Seen.the-variants.{Other};
 ghost use Rattle.stores.specs.Keys.{linksSize, sameKey, fieldsAt, keyIn, keyAt, findKey, seenIn, foundOf, FreeIn, valueWord, putAt, Linked, EntryTested, StoreChecked, EntryPut};
 
@@ -73,12 +73,6 @@ pub enum StoreCheck {
     Accepted,
 }
 
-fn wide(x: u8) -> u32
-    ensures { λ r. ⌜ r ≡ x ⌝ }
-{
-    x as u32
-}
-
 // The numbers of entry i.
 fn entry_at(store: &[u8], i: usize) -> Fields
     requires { ⌜ entryWidth * i + entryWidth ≤ length (now store) ⌝ }
@@ -87,8 +81,8 @@ fn entry_at(store: &[u8], i: usize) -> Fields
     let at = ENTRY_WIDTH * i;
     Fields {
         node: values::two(store, at),
-        attribute: wide(store[at + 2]),
-        fourth: wide(store[at + 3]),
+        attribute: values::wide(store[at + 2]),
+        fourth: values::wide(store[at + 3]),
         parameter: values::four(store, at + 4),
         value: values::four(store, at + 8),
     }
@@ -152,12 +146,20 @@ fn has_key(store: &[u8], i: usize, key: Key) -> bool
     e.parameter == key.word
 }
 
+// The first cell of entry j.
+fn first_cell(j: usize) -> usize
+    requires { ⌜ j < entryLimit ⌝ }
+    ensures { λ r. ⌜ r ≡ firstCell j ⌝ }
+{
+    BUCKETS + FAN_OUT * j
+}
+
 // The cell of entry j for the lowest digit of what is left of a key.
 fn cell_below(j: usize, rest: u64) -> usize
     requires { ⌜ j < entryLimit ⌝ }
     ensures { λ r. ⌜ r ≡ cellOf j (rest % fanOut) ⌝ }
 {
-    BUCKETS + FAN_OUT * j + (rest % BASE) as usize
+    first_cell(j) + (rest % BASE) as usize
 }
 
 // What stands at a cell of the index.
@@ -226,7 +228,7 @@ fn plant(index: &mut [u16], cell: usize, kept: usize)
     requires { ⌜ (length (now index) ≡ linksSize) × (kept < entryLimit) × (cell < linksSize) ⌝ }
     ensures { λ _. ⌜ now (index .exit) ≡ planted (now (index .entry)) cell kept ⌝ }
 {
-    values::clear(index, BUCKETS + FAN_OUT * kept, FAN_OUT);
+    values::clear(index, first_cell(kept), FAN_OUT);
     index[cell] = (kept + 1) as u16;
 }
 

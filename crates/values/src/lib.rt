@@ -163,7 +163,8 @@ pub fn unsigned(z: i32) -> u32
     }
 }
 
-fn wide(x: u8) -> u32
+// A byte as a number of four.
+pub fn wide(x: u8) -> u32
     ensures { λ r. ⌜ (r ≡ x) × (r < 256) ⌝ }
 {
     x as u32

@@ -8,8 +8,7 @@ pub plant-spec : {M : Type 1} → statement M
 plant-spec =
     tie.close
     (tie.spec
-    (λ c. search needs)  -- the entry's cells
-    (λ c. search needs)
+    (λ c κs. search needs)  -- the entry's cells
     (λ c κs. search needs)
     (λ c. search needs)  -- index[cell] = (kept + 1) as u16
     (λ c. search needs)
