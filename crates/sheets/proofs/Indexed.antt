@@ -10,12 +10,11 @@ use lib.Dec.{eqb}
 use lib.ListN.{length, drop, getD, set, length-set}
 use lib.Seq.{getD-drop, getD-set-same, getD-set-other}
 use borrow.Author.Tests.{eqb-true, eqb-false, eq-eqb, ne-eqb}
-use Rattle.saiga.specs.Values.{baseOf}
-use Rattle.saiga.specs.Types.{Attribute, attributeAt}
+use Rattle.saiga.specs.Types.{attributeAt}
 use Rattle.saiga.specs.Sheet.{Sheet, nodeCount, attributeCount, figureFor, ruleFor, ruled, figured, definition}
 use Rattle.sheets.specs.Scan.{figurePlace, rulesAt, rulePlace, attributesPlace, nodesPlace, figureAt, pieceAt, indexed, counted, FigureFits, RuleFits, Described, Indexed}
 use Rattle.values.proofs.Declared.{past, attributeIn, attribute-at}
-use Rattle.values.specs.Layout.{resultAt, parameterAt, kindAt, attributesIn, kindsIn}
+use Rattle.values.specs.Layout.{kindAt, attributesIn, kindsIn}
 
 -- ---- Attributes and kinds
 

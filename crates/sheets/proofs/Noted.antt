@@ -3,27 +3,26 @@ use mathlib.Core.Bool.{Bool, true, false, cond, and-eq-true-iff}
 use mathlib.Core.List.{List}
 use mathlib.Core.Option.{Option, none, some}
 use mathlib.Core.Path.{_≡_, refl, sym, ap, _∙_}
-use Prim.Native.Nat.{ℕ, suc, _+_, _*_, _-_, _≤_, _<_}
+use Prim.Native.Nat.{ℕ, suc, _+_, _-_, _≤_, _<_}
 use native.Mathlib.Omega.{arith}
-use lib.Dec.{leb, ltb, eqb}
+use lib.Dec.{eqb}
 use lib.ListN.{length, take, drop, getD, set, length-take}
 use lib.Seq.{getD-drop, getD-set-other}
 use borrow.Author.Tests.{ltb-true}
-use Rattle.saiga.specs.Values.{ofBytes, isWord, baseOf}
+use Rattle.saiga.specs.Values.{ofBytes}
 use Rattle.values.specs.Cells.{emptied}
-use Rattle.values.specs.Layout.{resultAt}
 use Rattle.values.proofs.Cells.{emptied-inside, emptied-outside}
 use Rattle.expressions.specs.declared.Formed.{Formed}
 use Rattle.expressions.specs.declared.Formed.the-variants.{Expression}
-use Rattle.expressions.specs.Noted.{Noted, Before, NotesWhole}
+use Rattle.expressions.specs.Noted.{Before, NotesWhole}
 use Rattle.expressions.proofs.Noting.{noted-same}
 use Rattle.sheets.specs.declared.Progress.{Progress}
 use Rattle.sheets.specs.declared.Read.{Read}
 use Rattle.sheets.specs.declared.Read.the-variants.{Stops, Ends, GoesOn}
 use Rattle.sheets.specs.declared.SheetCheck.{SheetCheck}
 use Rattle.sheets.specs.declared.SheetCheck.the-variants.{Refused, Accepted}
-use Rattle.sheets.specs.Scan.{figurePlace, rulesAt, rulePlaces, rulePlace, attributesPlace, nodesPlace, indexSize, pieceAt, Scanned, stops_at-offset_, ends, goes-on, demand, scanAttribute, scanNode, scanFigure, scanEnd, Reading, ReadAs, scanned, scanOf, missingFrom}
-use Rattle.sheets.specs.Notes.{RuleNoted, RulesNoted, NotedTo, NotesOn, ChecksNotes}
+use Rattle.sheets.specs.Scan.{figurePlace, rulesAt, rulePlaces, rulePlace, attributesPlace, nodesPlace, indexSize, pieceAt, Scanned, stops_at-offset_, ends, goes-on, demand, scanAttribute, scanNode, scanFigure, scanEnd, Reading, ReadAs, scanned, scanOf}
+use Rattle.sheets.specs.Notes.{RuleNoted, NotedTo, NotesOn, ChecksNotes}
 use Rattle.sheets.proofs.Indexed.{stored-fits}
 
 -- ---- Commands that are no rules

@@ -1,6 +1,4 @@
 -- `sheets::complete` meets its contract: by whether a pair is missing.
-use native.Mathlib.Omega.{arith}
-use lib.ListN.{length-set}
 use borrow.Author.Needs.{needs}
 use Rattle.sheets.proofs.Gaps.{complete-accepts, complete-refuses}
 use Rattle.sheets.proofs.complete.Statement.{statement}

@@ -1,6 +1,5 @@
 -- `sheets::read_commands` meets its contract. The loop's invariant: what is read from here on is what is read in all, and the rules so far are noted.
 use Prim.Native.Nat.{_-_}
-use native.Mathlib.Omega.{arith}
 use lib.ListN.{length}
 use borrow.Author.Needs.{needs}
 use Rattle.sheets.proofs.Pass.{Reached, reached-start, reached-reading, reached-size, size-at-stop, size-completed, place-fits, pass-stops, pass-ends, read-all, less-left, reached-next}

@@ -1,7 +1,7 @@
 -- `sheets::read_rule` meets its contract: the stops in the order of their numbers. `search` finds the premises of each law among what is known at the place.
 use borrow.Author.Needs.{needs}
 use Rattle.sheets.proofs.Commands.{rule-short, rule-cut, rule-kind, rule-attribute, rule-twice, rule-no-expression, rule-type, rule-goes-on}
-use Rattle.sheets.proofs.Noted.{stop-notes, rule-notes}
+use Rattle.sheets.proofs.Noted.{rule-notes}
 use Rattle.sheets.proofs.read_rule.Statement.{statement}
 use Rattle.sheets.proofs.read_rule.Tie as tie
 
