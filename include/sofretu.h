@@ -60,7 +60,8 @@ typedef struct {
 /* The fields of an answer. */
 enum {
     SOFRETU_NUMBER, /* 0 for a value, else the stop's number */
-    SOFRETU_PLACE,  /* stops 2 to 7: the offset of the faulty command; 8: node * 32 + attribute; 10: the entry's number; else 0 */
+    SOFRETU_PLACE,  /* stops 2 to 7: the offset of the faulty command; 8: node * 32 + attribute, of several pairs the one with the lowest attribute,
+                     * and among those the lowest node; 10: the entry's number; else 0 */
     SOFRETU_TYPE,   /* 0 Unit, 1 Bool, 2 Int, 3 Node; 0 under any stop */
     SOFRETU_VALUE,  /* Unit 0; Bool 0 or 1; Int as it is; Node its number, or 65535 for null; 0 under any stop */
     SOFRETU_STEPS,  /* the counted steps; 0 under stops 1 to 13 */

@@ -3,10 +3,8 @@
 use mathlib.Core.Bool.{Bool, true, false, cond, false≢true, _&&_, and-eq-true-iff}
 use mathlib.Core.Option.{Option, none, some}
 use mathlib.Core.List.{List, [], _∷_}
-use mathlib.Core.Logic.{_⊎_, inl, inr}
 use mathlib.Core.Path.{_≡_, refl, subst}
 use Prim.Native.Nat.{ℕ, zero, suc, _+_, _≤_, _<_}
-use native.Mathlib.Nat.{eq-or-lt-of-le}
 use native.Mathlib.Omega.{arith}
 use lib.Dec.{leb, ltb, eqb}
 use lib.ListN.{length, take, drop, getD, length-append, length-drop}
@@ -15,11 +13,13 @@ use Rattle.saiga.specs.Limits.{sheetLimit, attributeLimit, nodeLimit}
 use Rattle.saiga.specs.Values.{base, Value, ofBytes, isWord}
 use Rattle.saiga.specs.Expressions.{Expr, Whole, no-expression, expression, readWhole}
 use Rattle.saiga.specs.Types.{attributeAt}
-use Rattle.saiga.specs.Sheet.{Figure, Rule, Sheet, emptySheet, nodeCount, attributeCount, figureFor, ruleFor, ruleScope, Definition, undefined, figure, piece-of, ruled, figured, definition, wholeExpr, definitionExpr, context, Command, attribute-command, node-command, figure-command, rule-command, end-command, no-command, commandOf, Read, stops_at-offset_, ends, goes-on, require, readAttribute, readNode, readFigure, requireRule, readRule, readEnd, readCommand, readNext, Checked, refused_at-place_, accepted, isDefined, gapAt, gapFrom, complete, readCommands, checkSheet}
+use Rattle.saiga.specs.Gaps.{firstGap}
+use Rattle.saiga.specs.Sheet.{Figure, Rule, Sheet, emptySheet, nodeCount, attributeCount, figureFor, ruleFor, ruleScope, Definition, undefined, figure, piece-of, ruled, figured, definition, wholeExpr, definitionExpr, context, Command, attribute-command, node-command, figure-command, rule-command, end-command, no-command, commandOf, Read, stops_at-offset_, ends, goes-on, require, readAttribute, readNode, readFigure, requireRule, readRule, readEnd, readCommand, readNext, Checked, refused_at-place_, accepted, isDefined, defines, complete, readCommands, checkSheet}
 use Rattle.saiga.specs.Sound.{ExprIn, literal∈, All, all-none, all-cons, ContextIn}
 use Rattle.saiga.proofs.FourBytes.{word-in}
 use Rattle.saiga.proofs.Inference.{hasType-sound}
 use Rattle.saiga.proofs.Reading.{read-in}
+use Rattle.saiga.proofs.Gaps.{gap-law}
 
 pub record AcceptedSheet (s : Sheet) : Type 0 where
   pub nodes-bound : nodeCount s ≤ nodeLimit
@@ -233,29 +233,6 @@ module _ (P : ℕ → Definition → Type 0) (a : ℕ) where
   in-force none (some p) g h d = h
   in-force none none g h d = absurd (false≢true d)
 
--- Where the check finds no gap, every declared pair is defined.
-attribute-defined : (s : Sheet) (k n a i : ℕ) → gapAt s k n a ≡ none → a ≤ i → i < a + k → isDefined (definition s n i) ≡ true
-unfolding gapAt
-attribute-defined s zero n a i e p q = absurd (omega arith)
-attribute-defined s (suc k) n a i e p q = go (isDefined (definition s n a)) refl (eq-or-lt-of-le p) (attribute-defined s k n (suc a) i)
-  where
-    go : (b : Bool) → isDefined (definition s n a) ≡ b → (a ≡ i) ⊎ (a < i)
-        → (gapAt s k n (suc a) ≡ none → suc a ≤ i → i < suc a + k → isDefined (definition s n i) ≡ true) → isDefined (definition s n i) ≡ true
-    go true d (inl same) rest = cc
-    go true d (inr later) rest = rest (cc) later (omega arith)
-    go false d c rest = cc
-
-node-complete : (s : Sheet) (k n m : ℕ) → gapFrom s k n ≡ none → n ≤ m → m < n + k → gapAt s (attributeCount s) m 0 ≡ none
-unfolding gapFrom
-node-complete s zero n m e p q = absurd (omega arith)
-node-complete s (suc k) n m e p q = go (gapAt s (attributeCount s) n 0) refl (eq-or-lt-of-le p) (node-complete s k (suc n) m)
-  where
-    go : (o : Option ℕ) → gapAt s (attributeCount s) n 0 ≡ o → (n ≡ m) ⊎ (n < m)
-        → (gapFrom s k (suc n) ≡ none → suc n ≤ m → m < suc n + k → gapAt s (attributeCount s) m 0 ≡ none) → gapAt s (attributeCount s) m 0 ≡ none
-    go none d (inl same) rest = cc
-    go none d (inr later) rest = rest (cc) later (omega arith)
-    go (some place) d c rest = cc
-
 -- ---- The verdict
 
 abbrev Verdict : Checked Sheet → Type 0
@@ -264,11 +241,12 @@ Verdict (accepted s) =
     AcceptedSheet s × ((k a : ℕ) → Found (λ p. Reads s (piece-of p)) (ruleFor (s .rules) k a))
     × ((n a : ℕ) → n < nodeCount s → a < attributeCount s → isDefined (definition s n a) ≡ true)
 
-no-gap : (s : Sheet) → gapFrom s (nodeCount s) 0 ≡ none → (n a : ℕ) → n < nodeCount s → a < attributeCount s → isDefined (definition s n a) ≡ true
-no-gap s e n a p q =
-    attribute-defined s (attributeCount s) n 0 a (node-complete s (nodeCount s) 0 n e (omega arith) (omega arith)) (omega arith) (omega arith)
+-- Where the check finds no gap, every declared pair is defined.
+no-gap : (s : Sheet) → firstGap (defines s) (nodeCount s) (attributeCount s) ≡ none → (n a : ℕ) → n < nodeCount s → a < attributeCount s
+    → isDefined (definition s n a) ≡ true
+no-gap s = gap-law (defines s) (nodeCount s) (attributeCount s) none .0
 
-complete-verdict : (s : Sheet) (part : ℕ) (o : Option ℕ) → gapFrom s (nodeCount s) 0 ≡ o → SoFar s part → Verdict (complete s o)
+complete-verdict : (s : Sheet) (part : ℕ) (o : Option ℕ) → firstGap (defines s) (nodeCount s) (attributeCount s) ≡ o → SoFar s part → Verdict (complete s o)
 unfolding complete ruleScope context definition
 complete-verdict s part (some place) e h = omega arith
 complete-verdict s part none e h = (

@@ -6,6 +6,7 @@ pub mod FourBytes
 pub mod Equality
 pub mod Inference
 pub mod Reading
+pub mod Gaps
 pub mod Accepted
 pub mod PlainFacts
 pub mod Erasure

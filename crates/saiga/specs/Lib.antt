@@ -2,6 +2,7 @@ pub mod Limits
 pub mod Values
 pub mod Expressions
 pub mod Types
+pub mod Gaps
 pub mod Sheet
 pub mod Terms
 pub mod Plain

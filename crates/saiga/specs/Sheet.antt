@@ -2,13 +2,14 @@
 use mathlib.Core.Bool.{Bool, true, false, _&&_, cond}
 use mathlib.Core.Option.{Option, none, some}
 use mathlib.Core.List.{List, [], _∷_, _++_}
-use Prim.Native.Nat.{ℕ, zero, suc, _+_, _*_}
+use Prim.Native.Nat.{ℕ, zero, suc, _+_}
 use lib.Dec.{leb, ltb, eqb}
 use lib.ListN.{length, take, drop, getD}
 use Rattle.saiga.specs.Limits.{sheetLimit, attributeLimit, nodeLimit, lastKind}
 use Rattle.saiga.specs.Values.{baseOf, base, Value, unit, ofBytes, isWord, ofWord}
 use Rattle.saiga.specs.Expressions.{Expr, literal, Scope, Whole, no-expression, expression, readWhole}
 use Rattle.saiga.specs.Types.{Attribute, attributeAt, hasType}
+use Rattle.saiga.specs.Gaps.{firstGap}
 
 -- ---- What a sheet says
 
@@ -248,19 +249,14 @@ pub data Checked (A : Type 0) : Type 0 where
   refused_at-place_ : ℕ → ℕ → Checked A
   accepted : A → Checked A
 
--- Stop 8: "node × 32 + attribute of the first pair by node then attribute". The first number counts what is left to look at.
+-- Stop 8: a declared pair without definition, of several the first gap (Gaps.antt).
 unfoldable pub isDefined : Definition → Bool
 isDefined undefined = false
 isDefined (figure v) = true
 isDefined (piece-of p) = true
 
-unfoldable pub gapAt : Sheet → ℕ → ℕ → ℕ → Option ℕ
-gapAt s zero n a = none
-gapAt s (suc k) n a = elim (isDefined (definition s n a)) [ true ↦ gapAt s k n (suc a) | false ↦ some (n * attributeLimit + a) ]
-
-unfoldable pub gapFrom : Sheet → ℕ → ℕ → Option ℕ
-gapFrom s zero n = none
-gapFrom s (suc k) n = elim (gapAt s (attributeCount s) n 0) [ none ↦ gapFrom s k (suc n) | some place ↦ some place ]
+abbrev pub defines : Sheet → ℕ → ℕ → Bool
+defines s n a = isDefined (definition s n a)
 
 unfoldable pub complete : Sheet → Option ℕ → Checked Sheet
 complete s none = accepted s
@@ -273,7 +269,7 @@ readCommands zero s part at l = refused 2 at-place at
 readCommands (suc k) s part at l =
     elim (readNext s part l) [
       | stops number at-offset offset ↦ refused number at-place at + offset
-      | ends ↦ complete s (gapFrom s (nodeCount s) 0)
+      | ends ↦ complete s (firstGap (defines s) (nodeCount s) (attributeCount s))
       | goes-on next ↦ readCommands k (next .sheet) (next .part) (at + next .width) (drop (next .width) l)
     ]
 

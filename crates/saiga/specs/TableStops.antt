@@ -107,14 +107,14 @@ sheets =
     refuses (front ++ 0x52 ∷ 0 ∷ 0 ∷ 1 ∷ 0 ∷ 0x30 ∷ 0x5A ∷ []) 7 8 ∷
     refuses (front ++ rule0 ++ 0x52 ∷ 0 ∷ 1 ∷ 1 ∷ 0 ∷ 0x31 ∷ 0 ∷ []) 7 14 ∷
     refuses (front ++ 0x52 ∷ 0 ∷ 0 ∷ 2 ∷ 0 ∷ 0x14 ∷ 4 ∷ 0x5A ∷ []) 7 8 ∷
-    -- 8: the first pair by node then attribute, node × 32 + attribute
+    -- 8: the pair with the lowest attribute, and of these the lowest node; node × 32 + attribute
     refuses (front ++ 0x5A ∷ []) 8 0 ∷
     refuses (front ++ rule0 ++ 0x5A ∷ []) 8 1 ∷
     refuses (front ++ 0x4E ∷ 1 ∷ rule0 ++ 0x52 ∷ 1 ∷ 0 ∷ 1 ∷ 0 ∷ 0x31 ∷ 0x5A ∷ []) 8 1 ∷
     refuses (front ++ 0x4E ∷ 1 ∷ figure1 ++ rule0 ++ 0x52 ∷ 1 ∷ 0 ∷ 1 ∷ 0 ∷ 0x31 ∷ 0x5A ∷ []) 8 33 ∷
     refuses (front ++ 0x4E ∷ 1 ∷ figure0 ++ figure1 ++ 0x5A ∷ []) 8 32 ∷
-    -- 8: "by node then attribute": of (0, 1) and (1, 0) it is 1, not 32
-    refuses (front ++ 0x4E ∷ 1 ∷ 0x56 ∷ 1 ∷ 0 ∷ 1 ∷ 1 ∷ 0 ∷ 0 ∷ 0 ∷ rule0 ++ 0x5A ∷ []) 8 1 ∷
+    -- 8: of (0, 1) and (1, 0) it is the second, 32, though it comes later by node
+    refuses (front ++ 0x4E ∷ 1 ∷ 0x56 ∷ 1 ∷ 0 ∷ 1 ∷ 1 ∷ 0 ∷ 0 ∷ 0 ∷ rule0 ++ 0x5A ∷ []) 8 32 ∷
     accepts sheetF ∷
     []
 

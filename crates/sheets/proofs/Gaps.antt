@@ -1,122 +1,131 @@
--- The pass for missing pairs, node by node and attribute by attribute: what is left of it from here on is all of it.
-use mathlib.Core.Bool.{Bool, true, false, not}
+-- The pass for missing pairs: of a node the lowest attribute that it lacks, and of all nodes the first gap (Gaps.antt of crate saiga).
+use mathlib.Core.Bool.{Bool, true, false, not, _||_}
 use mathlib.Core.List.{List}
 use mathlib.Core.Option.{Option, none, some}
-use mathlib.Core.Path.{_≡_, refl, sym, ap, _∙_}
-use Prim.Native.Nat.{ℕ, zero, suc, _+_, _*_, _≤_, _<_}
+use mathlib.Core.Path.{_≡_, refl, sym, _∙_}
+use Prim.Native.Nat.{ℕ, zero, suc, _+_, _≤_, _<_}
 use native.Mathlib.Omega.{arith}
-use native.Mathlib.Numerals.{add-one}
-use lib.Dec.{eqb}
+use lib.Dec.{eqb, eqb·suc-zero}
 use lib.ListN.{getD}
-use borrow.Author.Tests.{ne-eqb, eq-eqb, not-true, not-false}
+use borrow.Author.Tests.{ne-eqb, not-true, not-false}
+use Rattle.saiga.specs.Limits.{attributeLimit, nodeLimit}
+use Rattle.saiga.proofs.Gaps.{one-more, LowestNode, lowest-at, gap-law}
 use Rattle.sheets.specs.declared.Progress.{Progress}
 use Rattle.sheets.specs.declared.Gap.{Gap}
 use Rattle.sheets.specs.declared.Gap.the-variants.{At, Nowhere}
 use Rattle.sheets.specs.declared.SheetCheck.the-variants.{Refused, Accepted}
-use Rattle.sheets.specs.Scan.{figurePlace, rulePlace, pairIndexed, isIndexed, missingAt, missingFrom, counted, scanned, scanOf, gapOf}
+use Rattle.sheets.specs.Scan.{figurePlace, rulePlace, pairIndexed, isIndexed, missingIn, Lacks, counted, scanned, Declared, scanOf, gapOf}
 use Rattle.values.specs.Layout.{kindAt}
 
 -- ---- A pair
 
-module _ (index : List ℕ) (n k a place : ℕ) (here : place ≡ figurePlace n a) where
-  pub figure-defines : (getD index place 0 ≡ 0 → ⊥) → true ≡ pairIndexed index n k a
-  unfolding pairIndexed
-  figure-defines h = rw (← here, ne-eqb _ _ h)
+-- One of its two numbers is not 0.
+pub pair-told : (index : List ℕ) (n k a figure rule x y : ℕ) → figure ≡ figurePlace n a → x ≡ getD index figure 0 → rule ≡ rulePlace k a
+    → y ≡ getD index rule 0 → not (eqb (x + y) 0) ≡ pairIndexed index n k a
+unfolding pairIndexed
+pair-told index n k a figure rule x y at-figure is-x at-rule is-y = rw (← at-figure, ← at-rule, ← is-x, ← is-y) (go x y)
+  where
+    go : (x y : ℕ) → not (eqb (x + y) 0) ≡ (not (eqb x 0) || not (eqb y 0))
+    go zero zero = refl
+    go (suc x) y = rw (ne-eqb (suc x + y) 0 (omega arith), eqb·suc-zero)
+    go zero (suc y) = rw (ne-eqb (0 + suc y) 0 (omega arith), eqb·suc-zero)
 
-  pub rule-defines : getD index place 0 ≡ 0 → (rule : ℕ) → rule ≡ rulePlace k a → not (eqb (getD index rule 0) 0) ≡ pairIndexed index n k a
-  unfolding pairIndexed
-  rule-defines e rule rule-here = rw (← here, eq-eqb _ _ e, ← rule-here)
+-- ---- A node
 
-module _ (bytes index : List ℕ) (attributes n : ℕ) where
-  -- ---- A node
-
-  -- From attribute a on `left` attributes of the node are yet to be looked at. k is the node's kind.
-  pub record RestOfNode (k a : ℕ) : Type 0 where
+module _ (bytes index : List ℕ) (attributes limit n : ℕ) where
+  -- The node has the attributes below a. k is its kind.
+  pub record HasBelow (k a : ℕ) : Type 0 where
     pub kind : k ≡ kindAt bytes attributes n
-    pub left : ℕ
-    pub to-end : a + left ≡ attributes
-    pub rest : missingAt bytes index attributes left n a ≡ missingAt bytes index attributes attributes n 0
+    pub within : a ≤ limit
+    pub lower : (b : ℕ) → b < a → isIndexed bytes index attributes n b ≡ true
 
-  pub node-start : (k : ℕ) → k ≡ kindAt bytes attributes n → RestOfNode k 0
-  node-start k kind = record { kind = kind; left = attributes; to-end = omega arith; rest = refl }
+  pub node-start : (k : ℕ) → k ≡ kindAt bytes attributes n → HasBelow k 0
+  node-start k kind = record { kind = kind; within = omega arith; lower = λ b p. absurd (omega arith) }
 
-  module _ (k a : ℕ) (h : RestOfNode k a) where
-    pub node-done : attributes ≤ a → none ≡ missingAt bytes index attributes attributes n 0
-    unfolding missingAt
-    node-done done = go (h .left) (h .to-end) (h .rest)
-      where
-        go : (l : ℕ) → a + l ≡ attributes → missingAt bytes index attributes l n a ≡ missingAt bytes index attributes attributes n 0
-            → none ≡ missingAt bytes index attributes attributes n 0
-        go zero e same = same
-        go (suc l) e same = absurd (omega arith)
+  module _ (k a : ℕ) (h : HasBelow k a) where
+    pub node-has-all : limit ≤ a → Lacks (isIndexed bytes index attributes n) limit limit
+    node-has-all done = record { within = omega arith; undefined = λ p. absurd (omega arith); lower = λ b p. h .lower b (omega arith) }
 
-    module _ (more : a < attributes) (b : Bool) (test : b ≡ pairIndexed index n k a) where
+    module _ (more : a < limit) (b : Bool) (test : b ≡ pairIndexed index n k a) where
       -- by its kind
       pair-is : isIndexed bytes index attributes n a ≡ b
       unfolding isIndexed
       pair-is = rw (← h .kind) (sym test)
 
-      pub node-misses : (place : ℕ) → not b ≡ true → place ≡ figurePlace n a → some place ≡ missingAt bytes index attributes attributes n 0
-      unfolding missingAt
-      node-misses place f here = ap some here ∙ go (h .left) (h .to-end) (h .rest)
-        where
-          go : (l : ℕ) → a + l ≡ attributes → missingAt bytes index attributes l n a ≡ missingAt bytes index attributes attributes n 0
-              → some (figurePlace n a) ≡ missingAt bytes index attributes attributes n 0
-          go zero e same = absurd (omega arith)
-          go (suc l) e same = rw (pair-is ∙ not-true b f, missingAt) at same
+      pub node-lacks : not b ≡ true → Lacks (isIndexed bytes index attributes n) limit a
+      node-lacks f = record { within = h .within; undefined = λ p. pair-is ∙ not-true b f; lower = h .lower }
 
-      pub node-has : not b ≡ false → RestOfNode k (a + 1)
-      unfolding missingAt
-      node-has f = go (h .left) (h .to-end) (h .rest)
-        where
-          go : (l : ℕ) → a + l ≡ attributes → missingAt bytes index attributes l n a ≡ missingAt bytes index attributes attributes n 0 → RestOfNode k (a + 1)
-          go zero e same = absurd (omega arith)
-          go (suc l) e same = record {
-            kind = h .kind;
-            left = l;
-            to-end = omega arith;
-            rest = rw (add-one a) (rw (pair-is ∙ not-false b f, missingAt) at same);
-          }
+      pub node-has : not b ≡ false → HasBelow k (a + 1)
+      node-has f = record {
+        kind = h .kind;
+        within = omega arith;
+        lower = λ c p. one-more (λ c. isIndexed bytes index attributes n c ≡ true) a (h .lower) (pair-is ∙ not-false b f) c (omega arith);
+      }
 
 -- ---- All nodes
 
 module _ (bytes index : List ℕ) (attributes nodes : ℕ) where
-  -- From node n on `left` nodes are yet to be looked at.
-  pub record Rest (n : ℕ) : Type 0 where
-    pub left : ℕ
-    pub to-end : n + left ≡ nodes
-    pub rest : missingFrom bytes index attributes left n ≡ missingFrom bytes index attributes nodes 0
+  -- Of the nodes below n, `node` lacks the attribute `lowest`, and none lacks one below it; or none lacks any.
+  pub record FirstOf (n lowest node : ℕ) : Type 0 where
+    pub to-end : n ≤ nodes
+    pub within : lowest ≤ attributes
+    pub lower : (m b : ℕ) → m < n → b < lowest → isIndexed bytes index attributes m b ≡ true
+    pub found : lowest < attributes → LowestNode (isIndexed bytes index attributes) n lowest node
 
-  pub all-start : Rest 0
-  all-start = record { left = nodes; to-end = omega arith; rest = refl }
+  pub all-start : (node : ℕ) → FirstOf 0 attributes node
+  all-start node =
+      record { to-end = omega arith; within = omega arith; lower = λ m b p. absurd (omega arith); found = λ p. absurd (omega arith) }
 
-  module _ (n : ℕ) (h : Rest n) where
-    pub all-done : nodes ≤ n → none ≡ missingFrom bytes index attributes nodes 0
-    unfolding missingFrom
-    all-done done = go (h .left) (h .to-end) (h .rest)
-      where
-        go : (l : ℕ) → n + l ≡ nodes → missingFrom bytes index attributes l n ≡ missingFrom bytes index attributes nodes 0
-            → none ≡ missingFrom bytes index attributes nodes 0
-        go zero e same = same
-        go (suc l) e same = absurd (omega arith)
+  module _ (n lowest node : ℕ) (h : FirstOf n lowest node) where
+    module _ (more : n < nodes) (a : ℕ) (lacks : Lacks (isIndexed bytes index attributes n) lowest a) where
+      -- below an attribute that node n has too
+      lower-next : (limit : ℕ) → limit ≤ a → (m b : ℕ) → m < n + 1 → b < limit → isIndexed bytes index attributes m b ≡ true
+      lower-next limit fits m b p q =
+          one-more (λ m. isIndexed bytes index attributes m b ≡ true) n (λ m p. h .lower m b p (omega (arith, lacks .within))) (lacks .lower b (omega arith)) m (omega arith)
 
-    module _ (more : n < nodes) (r : Gap) (found : gapOf r ≡ missingAt bytes index attributes attributes n 0) where
-      pub all-misses : (place : ℕ) → r ≡ At place → some place ≡ missingFrom bytes index attributes nodes 0
-      unfolding missingFrom
-      all-misses place told = go (h .left) (h .to-end) (h .rest)
-        where
-          go : (l : ℕ) → n + l ≡ nodes → missingFrom bytes index attributes l n ≡ missingFrom bytes index attributes nodes 0
-              → some place ≡ missingFrom bytes index attributes nodes 0
-          go zero e same = absurd (omega arith)
-          go (suc l) e same = rw (← (sym (ap gapOf told) ∙ found), missingFrom) at same
+      -- what is kept after it
+      module _ (lowest′ node′ : ℕ) where
+        pub gap-lower : a < lowest → lowest′ ≡ a → node′ ≡ n → FirstOf (n + 1) lowest′ node′
+        gap-lower less at-a at-n = rw (at-a, at-n) (record {
+          to-end = omega arith;
+          within = omega (arith, h .within);
+          lower = lower-next a (omega arith);
+          found = λ p. record { node = omega arith; undefined = lacks .undefined less; lower-node = λ m q. h .lower m a q less };
+        })
 
-      pub all-has : r ≡ Nowhere → Rest (n + 1)
-      unfolding missingFrom
-      all-has told = go (h .left) (h .to-end) (h .rest)
-        where
-          go : (l : ℕ) → n + l ≡ nodes → missingFrom bytes index attributes l n ≡ missingFrom bytes index attributes nodes 0 → Rest (n + 1)
-          go zero e same = absurd (omega arith)
-          go (suc l) e same = record { left = l; to-end = omega arith; rest = rw (add-one n) (rw (← (sym (ap gapOf told) ∙ found), missingFrom) at same) }
+        pub gap-stays : lowest ≤ a → lowest′ ≡ lowest → node′ ≡ node → FirstOf (n + 1) lowest′ node′
+        gap-stays same at-lowest at-node = rw (at-lowest, at-node) (record {
+          to-end = omega arith;
+          within = h .within;
+          lower = lower-next lowest same;
+          found = λ p.
+              let first = h .found p in
+              record { node = omega (arith, first .node); undefined = first .undefined; lower-node = first .lower-node };
+        })
+
+    module _ (done : nodes ≤ n) where
+      end-is : n ≡ nodes
+      end-is = omega (arith, h .to-end)
+
+      module _ (less : lowest < attributes) (declared : (m : ℕ) → m < nodes → Declared bytes index attributes m) where
+        node-declared : Declared bytes index attributes node
+        node-declared = let first = h .found less in declared node (omega (arith, first .node, end-is))
+
+        pub gap-node : node < nodeLimit
+        gap-node = node-declared .node-bound
+
+        pub gap-attribute : lowest < attributeLimit
+        gap-attribute = omega (arith, node-declared .attributes-bound)
+
+      pub gap-named : lowest < attributes → (place : ℕ) → place ≡ figurePlace node lowest → some place ≡ missingIn bytes index attributes nodes
+      gap-named less place here =
+          let first : LowestNode (isIndexed bytes index attributes) nodes lowest node = rw end-is at (h .found less) in
+          sym (gap-law (isIndexed bytes index attributes) nodes attributes (some place) .1
+          (node, lowest, here, lowest-at _ _ first less (rw end-is at (h .lower))))
+
+      pub gap-none : attributes ≤ lowest → none ≡ missingIn bytes index attributes nodes
+      gap-none all =
+          sym (gap-law (isIndexed bytes index attributes) nodes attributes none .1 λ m b p q. h .lower m b (omega (arith, end-is)) (omega arith))
 
 -- ---- What the pass comes to
 

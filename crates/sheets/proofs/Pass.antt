@@ -15,7 +15,7 @@ use Rattle.sheets.specs.declared.Read.{Read}
 use Rattle.sheets.specs.declared.Read.the-variants.{Stops, Ends, GoesOn}
 use Rattle.sheets.specs.declared.SheetCheck.{SheetCheck}
 use Rattle.sheets.specs.declared.SheetCheck.the-variants.{Refused}
-use Rattle.sheets.specs.Scan.{rulesAt, rulePlaces, indexSize, Scanned, stops_at-offset_, ends, goes-on, demand, scanAttribute, scanNode, scanFigure, demandRule, scanRule, scanEnd, scanAt, scanCommand, missingFrom, Scan, scanned, scanFrom, start, Reading, ReadAs, Declared, scanOf}
+use Rattle.sheets.specs.Scan.{rulesAt, rulePlaces, indexSize, Scanned, stops_at-offset_, ends, goes-on, demand, scanAttribute, scanNode, scanFigure, demandRule, scanRule, scanEnd, scanAt, scanCommand, missingIn, Scan, scanned, scanFrom, start, Reading, ReadAs, Declared, scanOf}
 use Rattle.sheets.proofs.Indexed.{kind-by-index}
 use Rattle.sheets.proofs.Scan.{progress, SoFar, Agrees, stop, end, next, next-agrees, start-so-far}
 
@@ -180,14 +180,14 @@ module _ (bytes first : List ℕ) (p : Progress) (index : List ℕ) (h : Reached
         rw (kept-at-stop number offset told, ← cleared)
         (left-over (scanOf (Refused number (p .at + offset)) index) λ k same. rw (← stops-as number offset told, scanFrom) at same)
 
-    completed : r ≡ Ends → scanned p after (missingFrom bytes after (p .attributes) (p .nodes) 0) ≡ scanFrom (suc (length bytes)) bytes start first
+    completed : r ≡ Ends → scanned p after (missingIn bytes after (p .attributes) (p .nodes)) ≡ scanFrom (suc (length bytes)) bytes start first
     unfolding scanFrom
     completed told =
         rw (kept-at-end told)
-        (left-over (scanned p index (missingFrom bytes index (p .attributes) (p .nodes) 0)) λ k same. rw (← ends-as told, scanFrom) at same)
+        (left-over (scanned p index (missingIn bytes index (p .attributes) (p .nodes))) λ k same. rw (← ends-as told, scanFrom) at same)
 
     pub pass-ends : (whole last : List ℕ) (check : SheetCheck) → r ≡ Ends → first ≡ emptied whole rulesAt rulePlaces
-        → scanOf check last ≡ scanned p after (missingFrom bytes after (p .attributes) (p .nodes) 0)
+        → scanOf check last ≡ scanned p after (missingIn bytes after (p .attributes) (p .nodes))
         → scanOf check last ≡ scanFrom (suc (length bytes)) bytes start (emptied whole rulesAt rulePlaces)
     pass-ends whole last check told cleared e = rw (← cleared) (e ∙ completed told)
 

@@ -3,10 +3,9 @@
 use mathlib.Core.Bool.{Bool, true, false, not, cond, _&&_, _||_, and-comm, and-eq-true-iff}
 use mathlib.Core.Option.{Option, none, some}
 use mathlib.Core.List.{List, [], _∷_, _++_}
-use mathlib.Core.Logic.{_⊎_, inl, inr}
 use mathlib.Core.Path.{_≡_, refl, sym, ap, _∙_, subst}
 use Prim.Native.Nat.{ℕ, zero, suc, _+_, _*_, _≤_, _<_}
-use native.Mathlib.Nat.{eq-or-lt-of-le, add-assoc}
+use native.Mathlib.Nat.{add-assoc}
 use native.Mathlib.Omega.{arith}
 use native.Mathlib.Numerals.{add-one}
 use lib.Dec.{leb, ltb, eqb, eqb·suc-zero}
@@ -16,12 +15,14 @@ use borrow.Author.Tests.{leb-true, leb-false, ltb-true, ltb-false, eqb-true, eqb
 use Rattle.saiga.specs.Values.{ofBytes, isWord}
 use Rattle.saiga.specs.Expressions.{Expr, Scope, Whole, no-expression, expression, readWhole}
 use Rattle.saiga.specs.Types.{attributeAt}
-use Rattle.saiga.specs.Sheet.{Sheet, emptySheet, nodeCount, attributeCount, figureFor, ruleFor, ruleScope, ruled, figured, definition, isDefined, gapAt, gapFrom, Command, attribute-command, node-command, figure-command, rule-command, end-command, no-command, commandOf, Read, stops_at-offset_ as read-stops_at-offset_, ends as read-ends, goes-on as read-on, require, isNone, readAttribute, readNode, readFigure, requireRule, readRule, readEnd, readCommand, readNext, Checked, refused_at-place_, accepted, complete, readCommands, checkSheet}
+use Rattle.saiga.specs.Gaps.{firstGap}
+use Rattle.saiga.specs.Sheet.{Sheet, emptySheet, nodeCount, attributeCount, figureFor, ruleFor, ruleScope, ruled, figured, definition, isDefined, defines, Command, attribute-command, node-command, figure-command, rule-command, end-command, no-command, commandOf, Read, stops_at-offset_ as read-stops_at-offset_, ends as read-ends, goes-on as read-on, require, isNone, readAttribute, readNode, readFigure, requireRule, readRule, readEnd, readCommand, readNext, Checked, refused_at-place_, accepted, complete, readCommands, checkSheet}
 use Rattle.saiga.proofs.Inference.{cond-passes}
+use Rattle.saiga.proofs.Gaps.{one-more, same-gap}
 use Rattle.sheets.specs.declared.Progress.{Progress}
 use Rattle.sheets.specs.declared.SheetCheck.{SheetCheck}
 use Rattle.sheets.specs.declared.SheetCheck.the-variants.{Refused, Accepted}
-use Rattle.sheets.specs.Scan.{figurePlace, rulesAt, rulePlaces, rulePlace, indexSize, figureAt, pieceAt, indexed, Scanned, stops_at-offset_, ends, goes-on, demand, scanAttribute, scanNode, scanFigure, demandRule, scanRule, scanEnd, scanAt, scanCommand, pairIndexed, isIndexed, missingAt, missingFrom, Scan, scanned, scanFrom, start, scanSheet, checkOf, Described, Indexed, scanOf, Checks}
+use Rattle.sheets.specs.Scan.{figurePlace, rulesAt, rulePlaces, rulePlace, indexSize, figureAt, pieceAt, indexed, Scanned, stops_at-offset_, ends, goes-on, demand, scanAttribute, scanNode, scanFigure, demandRule, scanRule, scanEnd, scanAt, scanCommand, pairIndexed, isIndexed, missingIn, Scan, scanned, scanFrom, start, scanSheet, checkOf, Described, Indexed, scanOf, Checks}
 use Rattle.values.specs.Cells.{emptied}
 use Rattle.values.specs.Layout.{resultAt, parameterAt, kindAt, attributesIn, kindsIn}
 use Rattle.values.proofs.Cells.{emptied-length, emptied-inside, emptied-outside}
@@ -47,19 +48,8 @@ module _ (bytes : List ℕ) (s : Sheet) (index : List ℕ) (h : Described bytes 
       go (suc x) zero = rw eqb·suc-zero
       go (suc x) (suc y) = simp eqb·suc-zero
 
-  gap-at : (k n a : ℕ) → n < nodeCount s → a + k ≤ attributeCount s → gapAt s k n a ≡ missingAt bytes index (attributeCount s) k n a
-  unfolding gapAt missingAt
-  gap-at zero n a p q = refl
-  gap-at (suc k) n a p q =
-      rw (defined-is n a p (omega arith), gapAt)
-      (ap {B = Option ℕ} (λ o. elim (isIndexed bytes index (attributeCount s) n a) [ true ↦ o | false ↦ some (figurePlace n a) ]) (gap-at k n (suc a) p (omega arith)))
-
-  gap-from : (k n : ℕ) → n + k ≤ nodeCount s → gapFrom s k n ≡ missingFrom bytes index (attributeCount s) k n
-  unfolding gapFrom missingFrom
-  gap-from zero n p = refl
-  gap-from (suc k) n p =
-      rw (gap-at (attributeCount s) n 0 (omega arith) (omega arith), gapFrom)
-      (ap {B = Option ℕ} (λ o. elim (missingAt bytes index (attributeCount s) (attributeCount s) n 0) [ none ↦ o | some place ↦ some place ]) (gap-from k (suc n) (omega arith)))
+  gap-is : firstGap (defines s) (nodeCount s) (attributeCount s) ≡ missingIn bytes index (attributeCount s) (nodeCount s)
+  gap-is = same-gap (nodeCount s) (attributeCount s) (defines s) (isIndexed bytes index (attributeCount s)) defined-is
 
 -- ---- Between two commands
 
@@ -165,14 +155,6 @@ ruleset tests = (leb-true, ltb-true)
 
 length-snoc : {A : Type 0} (l : List A) (x : A) → length (l ++ x ∷ []) ≡ suc (length l)
 length-snoc l x = length-append l (x ∷ []) ∙ add-one (length l)
-
--- a fact of all numbers below `suc n`, from one of those below `n` and of `n`
-one-more : (P : ℕ → Type 0) (n : ℕ) → ((i : ℕ) → i < n → P i) → P n → (i : ℕ) → i < suc n → P i
-one-more P n before here i h = go (eq-or-lt-of-le h)
-  where
-    go : (suc i ≡ suc n) ⊎ (suc i < suc n) → P i
-    go (inl e) = let same : n ≡ i = omega arith in rw same at here
-    go (inr l) = before i (omega arith)
 
 read-short : (c : Scope) (l : List ℕ) (e : Expr) → readWhole c l ≡ expression e → length l ≤ 256
 unfolding readWhole
@@ -340,8 +322,8 @@ commands-agree bytes (suc k) s at part index h = go (commands-agree bytes k) _ _
         → Outcome bytes (readCommands (suc k) s part at (drop at bytes)) (scanFrom (suc k) bytes (progress s at part) index)
     go ih r t e f stop = rw (e, readCommands, f, scanFrom)
     go ih r t e f end =
-        rw (e, readCommands, f, scanFrom, gap-from bytes s index (h .known) (nodeCount s) 0 (omega arith))
-        (finish (missingFrom bytes index (attributeCount s) (nodeCount s) 0))
+        rw (e, readCommands, f, scanFrom, gap-is bytes s index (h .known))
+        (finish (missingIn bytes index (attributeCount s) (nodeCount s)))
     go ih r t e f (next same so-far) = rw (e, readCommands, f, scanFrom, drop-drop, same) (ih _ _ _ _ so-far)
 
 pub start-so-far : (bytes index : List ℕ) → length bytes ≤ 65536 → length index ≡ indexSize → SoFar bytes emptySheet 0 0 (emptied index rulesAt rulePlaces)

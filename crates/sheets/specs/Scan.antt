@@ -12,6 +12,7 @@ use Rattle.saiga.specs.Values.{baseOf, base, ofBytes, isWord, ofWord}
 use Rattle.saiga.specs.declared.Value.{Value}
 use Rattle.saiga.specs.Expressions.{Whole, no-expression, expression, readWhole}
 use Rattle.saiga.specs.Types.{hasType}
+use Rattle.saiga.specs.Gaps.{firstGap}
 use Rattle.saiga.specs.Sheet.{Sheet, nodeCount, attributeCount, figureFor, ruleFor, attribute-part, node-part, figure-part, rule-part, Command, attribute-command, node-command, figure-command, rule-command, end-command, no-command, commandOf, Checked, refused_at-place_, accepted, checkSheet}
 use Rattle.sheets.specs.declared.Progress.{Progress}
 use Rattle.sheets.specs.declared.Read.{Read}
@@ -143,15 +144,15 @@ pairIndexed index n k a = not (eqb (getD index (figurePlace n a) 0) 0) || not (e
 unfoldable pub isIndexed : List ℕ → List ℕ → ℕ → ℕ → ℕ → Bool
 isIndexed bytes index attributes n a = pairIndexed index n (kindAt bytes attributes n) a
 
-unfoldable pub missingAt : List ℕ → List ℕ → ℕ → ℕ → ℕ → ℕ → Option ℕ
-missingAt bytes index attributes zero n a = none
-missingAt bytes index attributes (suc k) n a =
-    elim (isIndexed bytes index attributes n a) [ true ↦ missingAt bytes index attributes k n (suc a) | false ↦ some (figurePlace n a) ]
+-- the first gap, as the index has it
+abbrev pub missingIn : List ℕ → List ℕ → ℕ → ℕ → Option ℕ
+missingIn bytes index attributes nodes = firstGap (isIndexed bytes index attributes) nodes attributes
 
-unfoldable pub missingFrom : List ℕ → List ℕ → ℕ → ℕ → ℕ → Option ℕ
-missingFrom bytes index attributes zero n = none
-missingFrom bytes index attributes (suc k) n =
-    elim (missingAt bytes index attributes attributes n 0) [ none ↦ missingFrom bytes index attributes k (suc n) | some place ↦ some place ]
+-- The lowest attribute below a limit that a node lacks, or the limit.
+pub record Lacks (defined : ℕ → Bool) (limit a : ℕ) : Type 0 where
+  pub within : a ≤ limit
+  pub undefined : a < limit → defined a ≡ false
+  pub lower : (b : ℕ) → b < a → defined b ≡ true
 
 -- ---- The pass
 
@@ -172,7 +173,7 @@ scanFrom zero bytes p index = record { check = Refused 2 (p .at); index = index 
 scanFrom (suc k) bytes p index =
     elim (scanCommand bytes p index) [
       | stops number at-offset offset ↦ record { check = Refused number (p .at + offset); index = index }
-      | ends ↦ scanned p index (missingFrom bytes index (p .attributes) (p .nodes) 0)
+      | ends ↦ scanned p index (missingIn bytes index (p .attributes) (p .nodes))
       | goes-on p′ index′ ↦ scanFrom k bytes p′ index′
     ]
 

@@ -14,12 +14,12 @@ use saiga::limits::NODE_LIMIT;
 use saiga::limits::SHEET_LIMIT;
 ghost use mathlib.Core.Path.{_≡_};
 ghost use mathlib.Core.List.{List};
-ghost use Prim.Native.Nat.{ℕ, suc, _+_, _-_, _*_, _≤_, _<_};
-ghost use lib.ListN.{length, getD};
+ghost use Prim.Native.Nat.{ℕ, suc, _+_, _-_, _≤_, _<_};
+ghost use lib.ListN.{length};
 ghost use Rattle.saiga.specs.Limits.{sheetLimit, attributeLimit, nodeLimit, lastKind};
 ghost use Rattle.values.specs.Cells.{emptied};
 ghost use Rattle.sheets.specs.Notes.{NotesOn, ChecksNotes};
-ghost use Rattle.sheets.specs.Scan.{figurePlace, rulesAt, rulePlaces, rulePlace, figureAt, pieceAt, indexed, indexSize, scanAttribute, scanNode, scanFigure, scanRule, scanEnd, scanCommand, pairIndexed, missingAt, missingFrom, scanned, scanFrom, start, Reading, readOf, ReadAs, Declared, gapOf, scanOf, Checks, IndexedPair, IndexedRule, ruleNumber, figureOf};
+ghost use Rattle.sheets.specs.Scan.{rulesAt, rulePlaces, indexSize, scanAttribute, scanNode, scanFigure, scanRule, scanEnd, scanCommand, pairIndexed, isIndexed, missingIn, Lacks, scanned, scanFrom, start, Reading, ReadAs, Declared, gapOf, scanOf, Checks};
 
 // The last kind, as a byte of the sheet.
 const LAST_KIND_BYTE: u8 = LAST_KIND as u8;
@@ -247,45 +247,51 @@ fn read_command(sheet: &[u8], index: &mut [u16], notes: &mut [u8], p: Progress) 
     }
 }
 
-// Whether a node of kind k has a figure or a rule for an attribute.
+// Whether a node of kind k has a figure or a rule for an attribute: the index has a number for one of them.
 fn is_defined(index: &[u16], n: usize, k: usize, a: usize) -> bool
     requires { ⌜ (length (now index) ≡ indexSize) × (n < nodeLimit) × (k ≤ lastKind) × (a < attributeLimit) ⌝ }
     ensures { λ r. ⌜ r ≡ pairIndexed (now (index .entry)) n k a ⌝ }
 {
-    if index[lookup::figure_place(n, a)] != 0 {
-        return true;
-    }
-    index[lookup::rule_place(k, a)] != 0
+    let figure = lookup::number_at(index, lookup::figure_place(n, a));
+    let rule = lookup::number_at(index, lookup::rule_place(k, a));
+    figure + rule != 0
 }
 
-fn gap_of_node(sheet: &[u8], index: &[u16], attributes: usize, n: usize) -> Gap
-    requires { ⌜ Declared (now sheet) (now index) attributes n ⌝ }
-    ensures { λ r. ⌜ gapOf r ≡ missingAt (now (sheet .entry)) (now (index .entry)) attributes attributes n 0 ⌝ }
+// The lowest attribute below a limit that a node lacks, or the limit.
+fn lowest_lacked(sheet: &[u8], index: &[u16], attributes: usize, limit: usize, n: usize) -> usize
+    requires { ⌜ Declared (now sheet) (now index) attributes n × (limit ≤ attributes) ⌝ }
+    ensures { λ r. ⌜ Lacks (isIndexed (now (sheet .entry)) (now (index .entry)) attributes n) limit r ⌝ }
 {
     let k = values::kind_at(sheet, attributes, n) as usize;
     let mut a = 0;
-    while a < attributes {
+    while a < limit {
         if !is_defined(index, n, k, a) {
-            return Gap::At(lookup::figure_place(n, a));
+            return a;
         }
         a += 1;
     }
-    Gap::Nowhere
+    limit
 }
 
+// One walk over the nodes, which keeps the first gap so far: a later node matters only with a lower attribute.
 fn first_gap(sheet: &[u8], index: &[u16], attributes: usize, nodes: usize) -> Gap
     requires { ⌜ ((n : ℕ) → n < nodes → Declared (now sheet) (now index) attributes n) ⌝ }
-    ensures { λ r. ⌜ gapOf r ≡ missingFrom (now (sheet .entry)) (now (index .entry)) attributes nodes 0 ⌝ }
+    ensures { λ r. ⌜ gapOf r ≡ missingIn (now (sheet .entry)) (now (index .entry)) attributes nodes ⌝ }
 {
-    let mut n = 0;
-    while n < nodes {
-        let Gap::At(place) = gap_of_node(sheet, index, attributes, n) else {
-            n += 1;
-            continue;
-        };
-        return Gap::At(place);
+    let mut lowest = attributes;
+    let mut node = 0;
+    for n in 0..nodes {
+        let a = lowest_lacked(sheet, index, attributes, lowest, n);
+        if a < lowest {
+            lowest = a;
+            node = n;
+        }
     }
-    Gap::Nowhere
+    if lowest < attributes {
+        Gap::At(lookup::figure_place(node, lowest))
+    } else {
+        Gap::Nowhere
+    }
 }
 
 // The pass for missing pairs. The index of a sheet that passes gets the numbers of attributes and nodes.
@@ -293,7 +299,7 @@ fn complete(sheet: &[u8], index: &mut [u16], p: Progress) -> SheetCheck
     requires { ⌜ ((n : ℕ) → n < p .nodes → Declared (now sheet) (now index) (p .attributes) n) ⌝ }
     requires { ⌜ Reading (now sheet) p × (length (now index) ≡ indexSize) ⌝ }
     ensures { λ r. ⌜ scanOf r (now (index .exit))
-        ≡ scanned p (now (index .entry)) (missingFrom (now (sheet .entry)) (now (index .entry)) (p .attributes) (p .nodes) 0) ⌝ }
+        ≡ scanned p (now (index .entry)) (missingIn (now (sheet .entry)) (now (index .entry)) (p .attributes) (p .nodes)) ⌝ }
 {
     let Gap::At(place) = first_gap(sheet, index, p.attributes, p.nodes) else {
         index[ATTRIBUTES_PLACE] = p.attributes as u16;

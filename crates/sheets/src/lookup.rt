@@ -42,9 +42,9 @@ pub fn rule_place(k: usize, a: usize) -> usize
 }
 
 // The number that the index has at a place.
-fn number_at(index: &[u16], place: usize) -> usize
+pub fn number_at(index: &[u16], place: usize) -> usize
     requires { ⌜ place < length (now index) ⌝ }
-    ensures { λ r. ⌜ r ≡ getD (now (index .entry)) place 0 ⌝ }
+    ensures { λ r. ⌜ (r ≡ getD (now (index .entry)) place 0) × (r < 65536) ⌝ }
 {
     index[place] as usize
 }

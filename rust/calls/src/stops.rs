@@ -146,7 +146,8 @@ impl fmt::Display for Origin {
 pub struct Refusal {
     /// The stop.
     pub stop: Stop,
-    /// For stops 2 to 7 the offset of the faulty command, for 8 node × 32 + attribute, for 10 the entry's number; else 0.
+    /// For stops 2 to 7 the offset of the faulty command; for 8 node × 32 + attribute, of several pairs the one with the lowest attribute, and among
+    /// those the lowest node; for 10 the entry's number; else 0.
     pub place: u64,
 }
 

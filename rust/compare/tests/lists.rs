@@ -10,8 +10,8 @@ use trials::{Ask, Case, Oracle};
 
 #[test]
 fn the_vectors_agree() {
-    let lists = read_lists(include_str!("../../../tests/vectors/base.txt")).expect("their form");
-    assert_eq!(lists.len(), 451);
+    let lists = read_lists(include_str!("../../../tests/vectors/lists.txt")).expect("their form");
+    assert_eq!(lists.len(), 341);
     let mut ways = Ways::default();
     for listed in lists {
         for (name, engine) in ways.all() {
@@ -34,7 +34,7 @@ fn the_examples_of_the_stops_page_agree() {
 
 #[test]
 fn demand_3_holds_in_every_way_on_the_vectors() {
-    let lists = read_lists(include_str!("../../../tests/vectors/base.txt")).expect("their form");
+    let lists = read_lists(include_str!("../../../tests/vectors/lists.txt")).expect("their form");
     let mut ways = Ways::default();
     for listed in lists {
         for (name, engine) in ways.all() {

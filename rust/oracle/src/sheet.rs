@@ -194,13 +194,15 @@ impl Sheet {
         Ok(())
     }
 
-    /// Stop 8's place: "node × 32 + attribute of the first pair by node then attribute" that has no definition.
+    /// Stop 8's place, node × 32 + attribute: of the pairs without definition "the one with the lowest attribute, and among those the lowest node".
     fn first_undefined(&self) -> Option<usize> {
-        let attributes = 0..self.attributes.len() as u8;
-        (0..self.nodes.len())
-            .flat_map(|node| attributes.clone().map(move |attribute| (node, attribute)))
-            .find(|(node, attribute)| self.lookup(*node, *attribute).is_none())
-            .map(|(node, attribute)| node * MOST_ATTRIBUTES + usize::from(attribute))
+        let lowest = |node: usize| {
+            let mut attributes = 0..self.attributes.len() as u8;
+            let attribute = attributes.find(|a| self.lookup(node, *a).is_none())?;
+            Some((attribute, node))
+        };
+        let (attribute, node) = (0..self.nodes.len()).filter_map(lowest).min()?;
+        Some(node * MOST_ATTRIBUTES + usize::from(attribute))
     }
 
     /// The definition of a declared pair, where there is one.

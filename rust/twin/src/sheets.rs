@@ -96,18 +96,25 @@ impl<'a> Sheet<'a> {
         }
     }
 
-    /// The first pair without definition, as node × 32 + attribute.
+    /// Of the pairs without definition the one with the lowest attribute, and among those the lowest node, as node × 32 + attribute. One walk over the
+    /// nodes keeps the best so far: a later node matters only with a lower attribute.
     fn first_undefined(&self) -> Option<usize> {
-        (0..self.nodes).find_map(|node| {
+        let mut lowest = self.attributes;
+        let mut first = None;
+        for node in 0..self.nodes {
             let row = node * MOST_ATTRIBUTES;
-            let figures = &self.index.places[row..row + self.attributes];
-            let rules = &self.index.places[self.rules_of(node)..][..self.attributes];
+            let figures = &self.index.places[row..row + lowest];
+            let rules = &self.index.places[self.rules_of(node)..][..lowest];
             let undefined = figures
                 .iter()
                 .zip(rules)
                 .position(|(figure, rule)| *figure == 0 && *rule == 0);
-            undefined.map(|attribute| row + attribute)
-        })
+            if let Some(attribute) = undefined {
+                lowest = attribute;
+                first = Some(row + attribute);
+            }
+        }
+        first
     }
 
     /// Where the rules of a node's kind start in the index.

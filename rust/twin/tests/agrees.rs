@@ -62,7 +62,7 @@ fn agree(lists: impl Iterator<Item = Case>) -> Counts {
 
 #[test]
 fn the_vectors_agree() {
-    let text = include_str!("../../../tests/vectors/base.txt");
+    let text = include_str!("../../../tests/vectors/lists.txt");
     let lists = read_lists(text).expect("the vectors' form");
     for listed in &lists {
         assert_eq!(listed.case.clone().answered(&mut lent()), *listed);

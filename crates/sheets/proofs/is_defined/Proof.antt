@@ -1,6 +1,6 @@
--- `sheets::is_defined` meets its contract: by whether the figure is there.
+-- `sheets::is_defined` meets its contract: by the index's two numbers.
 use borrow.Author.Needs.{needs}
-use Rattle.sheets.proofs.Gaps.{figure-defines, rule-defines}
+use Rattle.sheets.proofs.Gaps.{pair-told}
 use Rattle.sheets.proofs.is_defined.Statement.{statement}
 use Rattle.sheets.proofs.is_defined.Tie as tie
 
@@ -9,10 +9,8 @@ is-defined-spec =
     tie.close
     (tie.spec
     (λ c κs. search needs)  -- the figure
-    (λ c. search needs)
-    (λ c. search needs)
-    (λ c. search figure-defines)
+    (λ c κs. search needs)
     (λ c κs. search needs)  -- the rule
-    (λ c. search needs)
-    (λ c. search needs)
-    (λ c. search rule-defines))
+    (λ c κs. search needs)
+    (λ c. search needs)  -- figure + rule
+    (λ c. search pair-told))

@@ -56,23 +56,48 @@ impl Draft {
         self.commands().concat()
     }
 
+    /// How many figures and rules it has.
+    pub fn definitions(&self) -> usize {
+        self.figures.len() + self.rules.len()
+    }
+
+    fn has_figure(&self, node: u16, attribute: u8) -> bool {
+        let mut figures = self.figures.iter();
+        figures.any(|(n, a, _)| (*n, *a) == (node, attribute))
+    }
+
+    fn has_rule(&self, kind: u8, attribute: u8) -> bool {
+        let mut rules = self.rules.iter();
+        rules.any(|(k, a, _)| (*k, *a) == (kind, attribute))
+    }
+
+    /// The declared pairs of a node and an attribute, node by node.
+    fn pairs(&self) -> impl Iterator<Item = (u16, u8)> {
+        let attributes = 0..self.attributes.len() as u8;
+        let nodes = 0..self.nodes.len() as u16;
+        nodes.flat_map(move |node| attributes.clone().map(move |attribute| (node, attribute)))
+    }
+
+    /// The pairs without definition, node by node.
+    #[cfg(test)]
+    pub fn gaps(&self) -> Vec<(u16, u8)> {
+        let undefined = |node, attribute| {
+            let kind = self.nodes[usize::from(node)];
+            !self.has_figure(node, attribute) && !self.has_rule(kind, attribute)
+        };
+        self.pairs()
+            .filter(|(node, attribute)| undefined(*node, *attribute))
+            .collect()
+    }
+
     /// Figures for the pairs without definition, and once in `times` for a pair with a rule.
     pub fn complete(&mut self, rng: &mut Rng, times: usize) {
-        for (node, kind) in self.nodes.iter().enumerate() {
-            for (attribute, declared) in self.attributes.iter().enumerate() {
-                let (node, attribute) = (node as u16, attribute as u8);
-                let ruled = self
-                    .rules
-                    .iter()
-                    .any(|(k, a, _)| (*k, *a) == (*kind, attribute));
-                let figured = self
-                    .figures
-                    .iter()
-                    .any(|(n, a, _)| (*n, *a) == (node, attribute));
-                if !figured && (!ruled || rng.once_in(times)) {
-                    let value = base_value(rng, declared.result, self.nodes.len());
-                    self.figures.push((node, attribute, value));
-                }
+        for (node, attribute) in self.pairs() {
+            let ruled = self.has_rule(self.nodes[usize::from(node)], attribute);
+            if !self.has_figure(node, attribute) && (!ruled || rng.once_in(times)) {
+                let result = self.attributes[usize::from(attribute)].result;
+                let value = base_value(rng, result, self.nodes.len());
+                self.figures.push((node, attribute, value));
             }
         }
     }

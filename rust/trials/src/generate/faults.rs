@@ -60,7 +60,7 @@ pub fn damaged(rng: &mut Rng, mut bytes: Vec<u8>) -> Vec<u8> {
     bytes
 }
 
-/// A sheet with too many attributes or nodes, a pair without definition, or a rule of bad length, form or type.
+/// A sheet with too many attributes or nodes, pairs without definition, or a rule of bad length, form or type.
 pub fn spoilt(rng: &mut Rng, mut draft: Draft) -> Draft {
     match rng.below(8) {
         0 => {
@@ -74,13 +74,10 @@ pub fn spoilt(rng: &mut Rng, mut draft: Draft) -> Draft {
             draft.nodes.resize(MOST_NODES, 0);
             draft.node(kind);
         }
-        2 if !draft.figures.is_empty() => {
-            let place = rng.below(draft.figures.len());
-            draft.figures.remove(place);
-        }
-        2 | 3 if !draft.rules.is_empty() => {
-            let place = rng.below(draft.rules.len());
-            draft.rules.remove(place);
+        2 | 3 if draft.definitions() > 0 => {
+            for _ in 0..rng.between(1, 4) {
+                undefine(rng, &mut draft);
+            }
         }
         _ if !draft.rules.is_empty() => {
             let place = rng.below(draft.rules.len());
@@ -92,6 +89,18 @@ pub fn spoilt(rng: &mut Rng, mut draft: Draft) -> Draft {
         }
     }
     draft
+}
+
+/// Takes out a figure or a rule, if there is one.
+fn undefine(rng: &mut Rng, draft: &mut Draft) {
+    if draft.definitions() == 0 {
+        return;
+    }
+    let place = rng.below(draft.definitions());
+    match place.checked_sub(draft.figures.len()) {
+        None => drop(draft.figures.remove(place)),
+        Some(rule) => drop(draft.rules.remove(rule)),
+    }
 }
 
 /// An expression that is no good for an attribute, most of the time.
@@ -140,6 +149,7 @@ mod tests {
     use super::super::sheets;
     use super::*;
     use oracle::sheet::Sheet;
+    use oracle::stop::Reason;
     use std::collections::BTreeSet;
 
     #[test]
@@ -158,6 +168,41 @@ mod tests {
         }
         for number in 2..=8 {
             assert!(numbers.contains(&number), "{number} never came");
+        }
+    }
+
+    #[test]
+    fn sheets_with_gaps_tell_the_orders_of_stop_8_apart() {
+        let by_attribute = |pair: &(u16, u8)| (pair.1, pair.0);
+        let [mut by_node, mut highest_attribute, mut highest_node] = [0; 3];
+        for number in 0..2_000 {
+            let rng = &mut Rng::new(12, number);
+            let draft = sheets::draft(rng);
+            let draft = spoilt(rng, draft);
+            let Err(stop) = Sheet::read(&draft.bytes()) else {
+                continue;
+            };
+            if stop.reason != Reason::NoDefinition {
+                continue;
+            }
+            let gaps = draft.gaps();
+            let lowest = gaps
+                .iter()
+                .copied()
+                .min_by_key(by_attribute)
+                .expect("a gap");
+            let place = usize::from(lowest.0) * MOST_ATTRIBUTES + usize::from(lowest.1);
+            assert_eq!(stop.place, place);
+            let of_lowest = gaps.iter().copied().filter(|gap| gap.1 == lowest.1);
+            by_node += usize::from(gaps.iter().min() != Some(&lowest));
+            highest_attribute += usize::from(gaps.iter().any(|gap| gap.1 > lowest.1));
+            highest_node += usize::from(of_lowest.max() != Some(lowest));
+        }
+        for told_apart in [by_node, highest_attribute, highest_node] {
+            assert!(
+                told_apart > 50,
+                "{by_node} {highest_attribute} {highest_node}"
+            );
         }
     }
 }

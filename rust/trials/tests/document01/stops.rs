@@ -281,6 +281,30 @@ fn stop_8_the_first_pair_without_definition() {
 }
 
 #[test]
+fn stop_8_names_the_lowest_attribute_and_then_the_lowest_node() {
+    // Three nodes of kinds 0 to 2 and three attributes; the pairs that are no gaps have figures.
+    let place_with = |gaps: &[(u16, u8)]| {
+        let pairs = (0..3).flat_map(|node| (0..3).map(move |attribute| (node, attribute)));
+        let defined = pairs.filter(|pair| !gaps.contains(pair));
+        let figures = defined.flat_map(|(node, attribute)| figure(node, attribute, 0));
+        let sheet = [
+            attribute(0, 0).repeat(3),
+            node(0),
+            node(1),
+            node(2),
+            figures.collect(),
+            end(),
+        ];
+        refused(&sheet.concat())
+    };
+    assert_eq!(place_with(&[(0, 1), (1, 0)]), (8, 32));
+    assert_eq!(place_with(&[(0, 2), (1, 1), (2, 0)]), (8, 64));
+    assert_eq!(place_with(&[(0, 2), (1, 1), (2, 1)]), (8, 33));
+    assert_eq!(place_with(&[(0, 0), (0, 2), (2, 0)]), (8, 0));
+    assert_eq!(place_with(&[(2, 2)]), (8, 66));
+}
+
+#[test]
 fn a_figure_goes_before_a_rule_and_a_rule_needs_no_node() {
     let sheet = [
         attribute(2, 0),

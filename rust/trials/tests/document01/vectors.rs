@@ -3,12 +3,12 @@
 use trials::case::read_lists;
 use trials::{demand3, Oracle};
 
-const BASE: &str = include_str!("../../../../tests/vectors/base.txt");
+const LISTS: &str = include_str!("../../../../tests/vectors/lists.txt");
 
 #[test]
 fn the_oracle_agrees_with_every_list() {
-    let lists = read_lists(BASE).expect("the text form");
-    assert_eq!(lists.len(), 451);
+    let lists = read_lists(LISTS).expect("the text form");
+    assert_eq!(lists.len(), 341);
     let mut oracle = Oracle::default();
     for listed in lists {
         assert_eq!(listed.case.clone().answered(&mut oracle), listed);
@@ -17,7 +17,7 @@ fn the_oracle_agrees_with_every_list() {
 
 #[test]
 fn demand_3_holds_on_every_list() {
-    let lists = read_lists(BASE).expect("the text form");
+    let lists = read_lists(LISTS).expect("the text form");
     let mut oracle = Oracle::default();
     let mut checks = 0;
     for listed in lists {

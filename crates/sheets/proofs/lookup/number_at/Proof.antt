@@ -11,4 +11,4 @@ number-at-spec =
     (λ c. search needs)
     (λ c. search needs)
     (λ c. omega (arith, c .shared-slice-known .given (c .before .args .place)))
-    (λ c. search needs))
+    (λ c. omega (arith, c .shared-slice-known .given (c .before .args .place))))
