@@ -30,7 +30,7 @@ module _ (defined : ℕ → ℕ → Bool) (nodes : ℕ) where
   NamesAt a none = (n : ℕ) → n < nodes → defined n a ≡ true
   NamesAt a (some place) = (n : ℕ) × (place ≡ n * attributeLimit + a) × LowestNode a n
 
-  -- The nodes before n are defined.
+  -- The nodes before n have attribute a.
   names-at : (a left n : ℕ) → n + left ≡ nodes → ((m : ℕ) → m < n → defined m a ≡ true) → NamesAt a (gapAt defined a left n)
   unfolding gapAt
   names-at a zero n e before = λ m p. before m (omega arith)
@@ -43,7 +43,7 @@ module _ (defined : ℕ → ℕ → Bool) (nodes : ℕ) where
 
   -- ---- All attributes
 
-  -- It is the lowest pair where the attributes before a are defined at every node.
+  -- With attribute a it is the lowest pair, if every node has the attributes before a.
   pub lowest-at : {attributes n a : ℕ} → LowestNode a n → a < attributes → ((m b : ℕ) → m < nodes → b < a → defined m b ≡ true)
       → Lowest defined nodes attributes n a
   lowest-at h p before =

@@ -9,13 +9,14 @@ use Rattle.saiga.specs.Limits.{attributeLimit}
 
 -- ---- The order
 
--- "the one with the lowest attribute, and among those the lowest node. The place is still node × 32 + attribute." `left` counts what is left to look at:
--- here the nodes from n on,
+-- "the one with the lowest attribute, and among those the lowest node. The place is still node × 32 + attribute."
+
+-- The first gap of attribute a, at `left` nodes from n on.
 unfoldable pub gapAt : (ℕ → ℕ → Bool) → ℕ → ℕ → ℕ → Option ℕ
 gapAt defined a zero n = none
 gapAt defined a (suc left) n = elim (defined n a) [ true ↦ gapAt defined a left (suc n) | false ↦ some (n * attributeLimit + a) ]
 
--- and here the attributes from a on, each at all nodes.
+-- The first gap of `left` attributes from a on, each at all nodes.
 unfoldable pub gapFrom : (ℕ → ℕ → Bool) → ℕ → ℕ → ℕ → Option ℕ
 gapFrom defined nodes zero a = none
 gapFrom defined nodes (suc left) a = elim (gapAt defined a nodes 0) [ none ↦ gapFrom defined nodes left (suc a) | some place ↦ some place ]

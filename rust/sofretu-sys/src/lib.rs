@@ -10,6 +10,7 @@
 use std::mem::MaybeUninit;
 
 pub use calls::Call;
+#[doc(hidden)]
 pub use places::Place;
 
 #[cfg(test)]

@@ -22,6 +22,7 @@ impl CheckedStore {
     /// # Panics
     ///
     /// Another number of entries lies in the words, or one of them in two cells.
+    #[doc(hidden)]
     pub fn places(&self, kept: usize) -> Vec<Place> {
         let mut places = vec![None; kept];
         let first = |bucket: usize| (bucket, Place { bucket, depth: 1 });
