@@ -1,7 +1,7 @@
-//! A second evaluator of settings sheets, written from document 01 alone. It shares nothing with the engines that are compared with it,
+//! A second evaluator of settings sheets, written from documents 01 and 02 alone. It shares nothing with the engines that are compared with it,
 //! not even their table of stops.
 //!
-//! "Document 01" is the paper "Settings sheets evaluated by Saiga", "document 001" the paper on Saiga that it follows. Comments name the
+//! "Document 01" is the paper "Settings sheets evaluated by Saiga", "document 02" its change requests, "document 001" the paper on Saiga that it follows. Comments name the
 //! section of document 01 that the code says again, and put its words between quotation marks.
 #![forbid(unsafe_code)]
 

@@ -194,7 +194,8 @@ impl Sheet {
         Ok(())
     }
 
-    /// Stop 8's place, node × 32 + attribute: of the pairs without definition "the one with the lowest attribute, and among those the lowest node".
+    /// Stop 8's place, node × 32 + attribute: of the pairs without definition "the one with the lowest attribute, and among those the lowest node"
+    /// (document 02, F-1).
     fn first_undefined(&self) -> Option<usize> {
         let lowest = |node: usize| {
             let mut attributes = 0..self.attributes.len() as u8;
