@@ -1,26 +1,78 @@
 -- The four-byte form of the base values, and bytes: writing and reading undo one another.
 use mathlib.Core.Bool.{Bool, true, false, cond, _||_}
 use mathlib.Core.Path.{_≡_, refl, sym, ap}
-use Prim.Native.Nat.{ℕ, zero, suc, _-_, _/_, _^_, _≤_, _<_}
+use Prim.Native.Nat.{ℕ, zero, suc, _+_, _-_, _/_, _%_, _^_, _≤_, _<_}
 use native.Mathlib.Nat.{pow-zero, pow-suc, mod-add-div, div-lt-iff-lt-mul}
 use native.Mathlib.Omega.{arith}
-use lib.Dec.{ltb, eqb, lit<}
+use lib.Dec.{ltb, eqb, leb→le, le→leb, lit<}
 use lib.IntN.{ℤ, pos, negsuc}
 use lib.ListN.{length}
 use lib.Signed.{mag}
 use borrow.Author.Tests.{ltb-true, ltb-false, eqb-true, eqb-false, lt-ltb, le-ltb, eq-eqb}
 use Rattle.saiga.specs.Values.{Base, unitT, boolT, intT, nodeT, base, Value, bool, int, typeOf, null, lowest, highest, held, equalZ, wordLimit, signBit, ofBytes, toBytes, signed, unsigned, bit, isWord, ofWord, toWord, typeCode, sameValue}
+use Rattle.saiga.specs.FourBytes.{TwosComplement, IsInt, WritingAndReading, FourEnds}
 use Rattle.saiga.specs.Sound.{IsA}
 
--- ---- The form of a value
+-- ---- An Int
 
-unsigned-signed : (w : ℕ) → w < wordLimit → unsigned (signed w) ≡ w
-unfolding unsigned signed
-unsigned-signed w h = go (ltb w signBit)
+pub four-ends : FourEnds
+unfolding signed
+four-ends = (refl, refl, refl, refl)
+
+pub twos-complement : TwosComplement
+unfolding signed
+twos-complement u h = go (ltb u signBit) refl
   where
-    go : (b : Bool) → unsigned (cond b (pos w) (negsuc (wordLimit - 1 - w))) ≡ w
-    go true = refl
-    go false = omega arith
+    go : (b : Bool) → ltb u signBit ≡ b → signed u ≡ cond b (pos u) (negsuc (wordLimit - 1 - u))
+    go true e =
+        let low = ltb-true u signBit e in
+        rw (le-ltb ((u + signBit) % wordLimit) signBit (omega arith)) (ap pos (omega arith))
+    go false e =
+        let high = ltb-false u signBit e in
+        rw (lt-ltb ((u + signBit) % wordLimit) signBit (omega arith)) (ap negsuc (omega arith))
+
+-- What is shown of the two's complement by the top bit holds of the Int that is read.
+by-top-bit : (P : ℤ → Type 0) (u : ℕ) → u < wordLimit → (u < signBit → P (pos u)) → (signBit ≤ u → P (negsuc (wordLimit - 1 - u))) → P (signed u)
+by-top-bit P u h low high = rw (twos-complement u h) (go (ltb u signBit) refl)
+  where
+    go : (b : Bool) → ltb u signBit ≡ b → P (cond b (pos u) (negsuc (wordLimit - 1 - u)))
+    go true e = low (ltb-true u signBit e)
+    go false e = high (ltb-false u signBit e)
+
+unsigned-signed : (u : ℕ) → u < wordLimit → unsigned (signed u) ≡ u
+unfolding unsigned
+unsigned-signed u h = by-top-bit (λ z. unsigned z ≡ u) u h (λ low. refl) (λ high. omega arith)
+
+pub signed-mag : (u : ℕ) → u < wordLimit → mag (signed u) < signBit
+signed-mag u h = by-top-bit (λ z. mag z < signBit) u h (λ low. low) (λ high. omega arith)
+
+unsigned-small : (z : ℤ) → mag z < signBit → unsigned z < wordLimit
+unfolding unsigned
+unsigned-small (pos n) h = omega arith
+unsigned-small (negsuc n) h = omega arith
+
+pub signed-unsigned : (z : ℤ) → mag z < signBit → signed (unsigned z) ≡ z
+unfolding unsigned
+signed-unsigned (pos n) h = rw (twos-complement n (omega arith), lt-ltb n signBit h)
+signed-unsigned (negsuc n) h =
+    rw (twos-complement (wordLimit - 1 - n) (omega arith), le-ltb (wordLimit - 1 - n) signBit (omega arith)) (ap negsuc (omega arith))
+
+-- An Int is a number with `mag` below 2^31.
+int-mag : (z : ℤ) → IsInt z → mag z < signBit
+int-mag (pos n) i = let below = leb→le n 2147483647 (i .to-highest .le) in omega arith
+int-mag (negsuc n) i = let above = leb→le n 2147483647 (i .from-lowest .le) in omega arith
+
+mag-int : (z : ℤ) → mag z < signBit → IsInt z
+mag-int (pos n) h = record { from-lowest = record { le = tt }; to-highest = record { le = le→leb n 2147483647 (omega arith) } }
+mag-int (negsuc n) h = record { from-lowest = record { le = le→leb n 2147483647 (omega arith) }; to-highest = record { le = tt } }
+
+pub writing-and-reading : WritingAndReading
+writing-and-reading = (
+  (λ z i. let small = int-mag z i in (unsigned-small z small, signed-unsigned z small)),
+  λ u h. (mag-int (signed u) (signed-mag u h), unsigned-signed u h),
+)
+
+-- ---- The form of a value
 
 bit-is-one : (w : ℕ) → w < 2 → bit (eqb w 1) ≡ w
 bit-is-one w h = go (eqb w 1) refl
@@ -98,17 +150,6 @@ unfolding isWord ofWord toWord
 bool-in nodes true = record { is-word = refl; round-trip = refl }
 bool-in nodes false = record { is-word = refl; round-trip = refl }
 
-pub signed-unsigned : (z : ℤ) → mag z < signBit → signed (unsigned z) ≡ z
-unfolding signed unsigned
-signed-unsigned (pos n) h = rw (lt-ltb n signBit h)
-signed-unsigned (negsuc n) h = rw (le-ltb (wordLimit - 1 - n) signBit (omega arith)) (ap negsuc (omega arith))
-
-unsigned-small : (z : ℤ) → mag z < signBit → unsigned z < wordLimit
-unfolding unsigned
-unsigned-small (pos n) h = omega arith
-unsigned-small (negsuc n) h = omega arith
-
--- An Int is a number with `mag` below 2^31.
 int-in : (nodes : ℕ) (z : ℤ) → mag z < signBit → IsA nodes intT (int z)
 unfolding isWord ofWord toWord
 int-in nodes z h = record { is-word = lt-ltb (unsigned z) wordLimit (unsigned-small z h); round-trip = ap int (signed-unsigned z h) }

@@ -5,4 +5,4 @@ use Rattle.saiga.proofs.TableL.{definitions}
 
 pub table-stores : TableStores
 unfolding definitions outcomes TableStores
-table-stores = (refl, refl, refl)
+table-stores = (refl, refl, refl, refl)

@@ -1,5 +1,6 @@
 pub mod Limits
 pub mod Values
+pub mod FourBytes
 pub mod Expressions
 pub mod Types
 pub mod Gaps

@@ -3,10 +3,10 @@ use mathlib.Core.List.{List, [], _∷_, _++_}
 use mathlib.Core.Path.{_≡_}
 use Prim.Native.Nat.{ℕ}
 use lib.ListN.{replicate}
-use lib.IntN.{pos, negsuc}
+use lib.IntN.{ℤ, pos, negsuc}
 use Rattle.saiga.specs.Ask.{Lent, lent, Call, asking, Answer, Outcome, ask}
 use Rattle.saiga.specs.TableL.{sheetL, D, five, answer}
-use Rattle.saiga.specs.Rows.{times, whole, minus-one, null-literal, node-literal, two, attribute-of, rule-for, the-parameter, ends-with, an-int, stop}
+use Rattle.saiga.specs.Rows.{times, unit-literal, whole, minus-one, null-literal, node-literal, two, attribute-of, rule-for, the-parameter, ends-with, an-int, stop}
 use Rattle.saiga.specs.Misreadings.{sheetP, next}
 use Rattle.saiga.specs.TableStops.{front, sheetF}
 
@@ -89,6 +89,40 @@ node-entries =
     case (sheetEcho 258) wide-kept 2 (asking (echo (0x13 ∷ 1 ∷ 1 ∷ []) (node-literal 0)) 1000000) (a-node 256 1 2) wide-kept ∷
     []
 
+-- ---- Ints
+
+-- Attributes own (0, Int with Unit parameter) and echo (1, Int with Int parameter), and one node: own is a figure of four bytes, echo is the
+-- parameter.
+abbrev pub sheetInt : List ℕ → List ℕ
+sheetInt own = 0x41 ∷ 2 ∷ 0 ∷ 0x41 ∷ 2 ∷ 2 ∷ 0x4E ∷ 0 ∷ (0x56 ∷ 0 ∷ 0 ∷ 0 ∷ own) ++ rule-for 0 1 the-parameter ++ 0x5A ∷ []
+
+abbrev pub echo-int : List ℕ → List ℕ
+echo-int x = attribute-of 1 (node-literal 0) x
+
+abbrev pub int-kept : List ℕ → List ℕ → List ℕ
+int-kept x v = 0 ∷ 0 ∷ 1 ∷ 0 ∷ x ++ v
+
+abbrev pub five-kept : List ℕ → List ℕ
+five-kept v = int-kept (5 ∷ 0 ∷ 0 ∷ 0 ∷ []) v
+
+-- Four bytes that are read as an Int: the operand of an expression, a figure, a parameter (which is kept with the value that it is), and the
+-- value of an entry, here of echo(5).
+abbrev pub reads-as : List ℕ → ℤ → List Case
+reads-as u z =
+    case (sheetInt u) [] 0 (asking (0x12 ∷ u) 0) (an-int z 0 0) [] ∷
+    case (sheetInt u) [] 0 (asking (attribute-of 0 (node-literal 0) unit-literal) 1) (an-int z 1 0) [] ∷
+    case (sheetInt u) (replicate 12 7) 0 (asking (echo-int (0x12 ∷ u)) 1) (an-int z 1 1) (int-kept u u) ∷
+    case (sheetInt u) (five-kept u) 1 (asking (echo-int five) 1) (an-int z 1 1) (five-kept u) ∷
+    []
+
+-- The four ends of a number of four bytes: 0, 2,147,483,647, 2,147,483,648 and 4,294,967,295.
+abbrev pub int-ends : List Case
+int-ends =
+    reads-as (0 ∷ 0 ∷ 0 ∷ 0 ∷ []) (pos 0)
+    ++ reads-as (0xFF ∷ 0xFF ∷ 0xFF ∷ 0x7F ∷ []) (pos 2147483647)
+    ++ reads-as (0 ∷ 0 ∷ 0 ∷ 0x80 ∷ []) (negsuc 2147483647)
+    ++ reads-as (0xFF ∷ 0xFF ∷ 0xFF ∷ 0xFF ∷ []) (negsuc 0)
+
 -- ---- The stops of the store
 
 -- "kept and store are as lent"
@@ -137,4 +171,5 @@ unfoldable pub TableStores : Type 0
 TableStores =
     (outcomes stores ≡ expected stores)
     × (outcomes node-entries ≡ expected node-entries)
+    × (outcomes int-ends ≡ expected int-ends)
     × (outcomes lent-stores ≡ expected lent-stores)

@@ -143,7 +143,7 @@ apply (holding h) v = applyHolding h v
 
 -- ---- The four-byte form
 
--- "A base value takes four bytes": a number of four bytes is below `wordLimit`, and in two's complement those from the sign bit on are negative.
+-- "A base value takes four bytes": a number of four bytes is below `wordLimit`, and those from the sign bit on are negative Ints.
 abbrev pub wordLimit : ℕ
 wordLimit = 4294967296
 
@@ -159,10 +159,12 @@ unfoldable pub toBytes : ℕ → ℕ → List ℕ
 toBytes zero n = []
 toBytes (suc k) n = n % 256 ∷ toBytes k (n / 256)
 
--- Int in two's complement, read from an unsigned number of four bytes and written as one.
+-- "With u the unsigned number of the four bytes, the Int is (u + 2,147,483,648) modulo 4,294,967,296, less 2,147,483,648" (document 02, F-3).
+-- FourBytes.antt has its laws: it is the two's complement of document 01.
 unfoldable pub signed : ℕ → ℤ
-signed w = cond (ltb w signBit) (pos w) (negsuc (wordLimit - 1 - w))
+signed u = pos ((u + signBit) % wordLimit) -ℤ pos signBit
 
+-- And back: the number that an Int is written as.
 unfoldable pub unsigned : ℤ → ℕ
 unsigned (pos n) = n
 unsigned (negsuc n) = wordLimit - 1 - n

@@ -3,14 +3,14 @@
 use mathlib.Core.Bool.{Bool, true, false, cond, true≢false}
 use mathlib.Core.Path.{_≡_, refl, sym, ap, ap₂, _∙_}
 use Prim.Native.Nat.{ℕ, zero, suc, _+_, _-_, _^_, _≤_, _<_}
-use native.Mathlib.Nat.{zero-add, not-suc-le-zero}
+use native.Mathlib.Nat.{not-suc-le-zero}
 use native.Mathlib.Omega.{arith}
 use lib.Dec.{ltb, eqb}
 use lib.IntN.{ℤ, pos, negsuc, negℤ, subℕ, _+ℤ_, _-ℤ_}
 use lib.Signed.{mag, ltZ}
 use mir.Syntax.{Width, w32, w64}
 use mir.Val.{SFits, hbits, ofZ, toZ}
-use mir.Facts.{toZ-pos, toZ-ofZ}
+use mir.Facts.{toZ-ofZ}
 use borrow.Author.Tests.{ltb-true, ltb-false, eqb-true, eqb-false, eq-eqb, ne-eqb, le-ltb}
 use Rattle.saiga.specs.Values.{lowest, highest, held, equalZ, unsigned}
 
@@ -33,7 +33,7 @@ mag-subℕ a b = go (ltb a b)
     go true = omega arith
     go false = omega arith
 
-mag-sum : (y z : ℤ) → mag (y +ℤ z) ≤ suc (mag y + mag z)
+pub mag-sum : (y z : ℤ) → mag (y +ℤ z) ≤ suc (mag y + mag z)
 mag-sum (pos a) (pos b) = omega arith
 mag-sum (pos a) (negsuc b) = omega (arith, mag-subℕ a (suc b))
 mag-sum (negsuc a) (pos b) = omega (arith, mag-subℕ b (suc a))
@@ -61,11 +61,7 @@ module _ (y x : ℤ) (p : SFits w32 y) (q : SFits w32 x) (a b : ℤ) (r : mag a 
   pub difference-is : toZ w64 (ofZ w64 (toZ w64 (ofZ w64 a) -ℤ toZ w64 (ofZ w64 b))) ≡ y -ℤ x
   difference-is = toZ-ofZ difference-fits ∙ operands _-ℤ_
 
--- -1 - z turns -(n + 1) into n and n into -(n + 1).
-turned : (n : ℕ) → negsuc 0 -ℤ pos n ≡ negsuc n
-turned zero = refl
-turned (suc n) = ap (λ k. negsuc (suc k)) (zero-add n)
-
+-- -1 - z turns -(n + 1) into n.
 turned-negative : (z : ℤ) → ltZ z (pos 0) ≡ true → negsuc 0 -ℤ z ≡ pos (mag z)
 turned-negative (pos n) t = absurd (not-suc-le-zero (ltb-true n 0 t))
 turned-negative (negsuc n) t = rw (le-ltb (suc n) 1 (omega arith)) (ap pos (omega arith))
@@ -128,10 +124,6 @@ equal-bits (negsuc m) (negsuc n) p q = go (eqb m n) refl
     go false e = ne-eqb (2 ^ 32 - suc m) (2 ^ 32 - suc n) (λ k. eqb-false m n e (omega arith))
 
 -- ---- Two's complement
-
--- What two's complement reads of a number with the top bit set, whose other bits are those of n turned over.
-pub top-half : (w : Width) (n : ℕ) → n < 2 ^ hbits w → negsuc 0 -ℤ toZ w n ≡ negsuc n
-top-half w n h = rw (toZ-pos w {n = n} h) (turned n)
 
 -- The bits of a negative Int.
 pub unsigned-negative : (z : ℤ) → ltZ z (pos 0) ≡ true → unsigned z ≡ 4294967295 - mag z

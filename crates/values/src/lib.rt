@@ -142,15 +142,11 @@ pub fn apply(f: Value, x: Value) -> Value
     }
 }
 
-// The Int of an unsigned number of four bytes, and the number of an Int.
+// The Int of an unsigned number of four bytes, its sign worked out by arithmetic; and the number of an Int.
 pub fn signed(w: u32) -> i32
     ensures { λ r. ⌜ r ≡ signedOf w ⌝ }
 {
-    if w < 2147483648 {
-        w as i32
-    } else {
-        -1 - (4294967295 - w) as i32
-    }
+    ((w as i64 + 2147483648) % 4294967296 - 2147483648) as i32
 }
 
 pub fn unsigned(z: i32) -> u32

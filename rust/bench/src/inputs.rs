@@ -135,6 +135,34 @@ pub fn branches() -> Input {
     }
 }
 
+/// Attributes 0 to 7 each add up 28 numbers, of which about half are negative, in no order that a processor could learn;
+/// attribute 8 adds these up, 31 of them, and attribute 9 that 31 times. The question is the sum of 18 with capacity 0:
+/// 986,560 steps, with an Int read for every two.
+pub fn signs() -> Input {
+    const SUMS: u8 = 8;
+    let number = |n: u32| (n.wrapping_mul(2_654_435_769) as i32) >> 8;
+    let numbers = |k: u8| sum((0..28).map(|n| int(number(28 * u32::from(k) + n))));
+    let often = |of_each: &[u8]| {
+        let parts = of_each.iter().cycle().take(31);
+        sum(parts.map(|k| of(&THIS, *k, &UNIT)))
+    };
+    let all: Vec<u8> = (0..SUMS).collect();
+    let sheet = [
+        attribute(INT_TYPE, UNIT_TYPE).repeat(usize::from(SUMS) + 2),
+        node(0),
+        all.iter().flat_map(|k| rule(0, *k, &numbers(*k))).collect(),
+        rule(0, SUMS, &often(&all)),
+        rule(0, SUMS + 1, &often(&[SUMS])),
+        end(),
+    ];
+    Input {
+        sheet: sheet.concat(),
+        question: sum((0..18).map(|_| of(&node_literal(0), SUMS + 1, &UNIT))),
+        store: empty(0),
+        ..Input::default()
+    }
+}
+
 /// Attribute 0 of p is p up to 1, and else the sum of those of p - 1 and p - 2. The question is the sum of 18 nodes' with
 /// parameter 40: 7,882 steps, which keep a figure for each node and parameter, 738 in all.
 pub fn parameterised() -> Input {
@@ -230,6 +258,7 @@ mod tests {
         assert_eq!(counts(&hops(1_024)), (873_813, 1_024));
         assert_eq!(counts(&hops(0)), (917_501, 0));
         assert_eq!(counts(&branches()), (882_772, 0));
+        assert_eq!(counts(&signs()), (986_560, 0));
         assert_eq!(counts(&parameterised()), (7_882, 738));
         assert_eq!(counts(&sized(1_024)), (1, 16));
         assert_eq!(counts(&sized(16_384)), (1, 256));

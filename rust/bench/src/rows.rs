@@ -63,6 +63,12 @@ pub fn ordinary(left: impl Fn(&Input) -> Input) -> Vec<Row> {
         row(NO_STORE, Question, Step, inputs::hops(0)),
         row(CHOICES, Question, Step, inputs::branches()),
         row(
+            "Step: sums of Ints of both signs",
+            Question,
+            Step,
+            inputs::signs(),
+        ),
+        row(
             "Step: parameterised",
             Question,
             Step,

@@ -1,7 +1,9 @@
-//! Document 01's cases, which `rust/trials` puts to the second evaluator, put to the library.
+//! The cases of documents 01 and 02, which `rust/trials` puts to the second evaluator, put to the library.
 
 #[path = "../../trials/tests/document01/common.rs"]
 mod common;
+#[path = "../../trials/tests/document01/ints.rs"]
+mod ints;
 #[path = "../../trials/tests/document01/sheet_l.rs"]
 mod sheet_l;
 #[path = "../../trials/tests/document01/stops.rs"]

@@ -107,7 +107,7 @@ fn read_head<'b>(bytes: &'b [u8], scope: Scope) -> Option<(Expr, &'b [u8])> {
         }
         0x12 => {
             let (operand, rest) = take::<4>(rest)?;
-            let value = Value::Int(i32::from_le_bytes(operand));
+            let value = Value::Int(values::int(operand));
             Some((Expr::Literal(value), rest))
         }
         0x13 => {

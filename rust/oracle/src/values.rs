@@ -148,7 +148,7 @@ impl Value {
         match base {
             Base::Unit => (word == 0).then_some(Value::Unit),
             Base::Bool => (word <= 1).then_some(Value::Bool(word == 1)),
-            Base::Int => Some(Value::Int(i32::from_le_bytes(bytes))),
+            Base::Int => Some(Value::Int(int(bytes))),
             Base::Node => node(u16::try_from(word).ok()?, nodes),
         }
     }
@@ -173,6 +173,13 @@ impl Value {
     }
 }
 
+/// The Int of four bytes. "With u the unsigned number of the four bytes, the Int is (u + 2,147,483,648) modulo 4,294,967,296, less
+/// 2,147,483,648" (document 02, F-3).
+pub fn int(bytes: [u8; 4]) -> i32 {
+    let u = i64::from(u32::from_le_bytes(bytes));
+    ((u + 2_147_483_648) % 4_294_967_296 - 2_147_483_648) as i32
+}
+
 /// The Node value written as `number`, on a sheet of `nodes` nodes.
 pub fn node(number: u16, nodes: usize) -> Option<Value> {
     match number {
@@ -185,4 +192,21 @@ pub fn node(number: u16, nodes: usize) -> Option<Value> {
 /// "A sum or difference beyond either end of Int is held at that end."
 fn held(exact: i64) -> i32 {
     exact.clamp(i64::from(i32::MIN), i64::from(i32::MAX)) as i32
+}
+
+#[cfg(test)]
+mod tests {
+    use super::int;
+
+    /// "Every four bytes read as the same Int as today" (document 02, F-3): in two's complement, which `i32` has.
+    #[test]
+    fn an_int_is_read_in_twos_complement() {
+        let ends = [0, i32::MAX as u32, i32::MIN as u32, u32::MAX];
+        let beside = ends.map(|end| [end.wrapping_sub(1), end, end.wrapping_add(1)]);
+        let spread = (0..=u32::MAX).step_by(65_537);
+        for u in beside.into_iter().flatten().chain(spread) {
+            let bytes = u.to_le_bytes();
+            assert_eq!(int(bytes), i32::from_le_bytes(bytes), "{u}");
+        }
+    }
 }

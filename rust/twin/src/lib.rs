@@ -2,7 +2,7 @@
 //! and the widths of its expressions in one pass, the store's check with its index, the question's check, and the frame
 //! machine. Like the engine it works in lent memory and on the stack alone, and so needs no allocator.
 //!
-//! "Document 01" is the paper "Settings sheets evaluated by Saiga".
+//! "Document 01" is the paper "Settings sheets evaluated by Saiga", "document 02" its change requests.
 #![forbid(unsafe_code)]
 #![no_std]
 

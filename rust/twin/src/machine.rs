@@ -5,7 +5,7 @@ use calls::index::Key;
 use calls::{Refusal, Stop};
 
 use crate::answers::Answer;
-use crate::bytes::{four, two};
+use crate::bytes::{four, int, two};
 use crate::expressions::LONGEST;
 use crate::sheets::{Definition, Sheet};
 use crate::stores::{Found, Store};
@@ -155,7 +155,7 @@ fn evaluate(
             }
             0x12 => {
                 at += 5;
-                Value::Int(four(piece, at - 4) as i32)
+                Value::Int(int(four(piece, at - 4)))
             }
             0x13 => {
                 at += 3;

@@ -1,5 +1,7 @@
 //! Document 01, "Values and functions".
 
+use crate::bytes::int;
+
 /// Null, where a Node stands.
 pub const NULL: u16 = 65_535;
 
@@ -38,7 +40,7 @@ impl Base {
         match self {
             Base::Unit => Value::Unit,
             Base::Bool => Value::Bool(word == 1),
-            Base::Int => Value::Int(word as i32),
+            Base::Int => Value::Int(int(word)),
             Base::Node => Value::Node(word as u16),
         }
     }

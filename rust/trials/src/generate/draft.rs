@@ -124,3 +124,18 @@ pub fn int(rng: &mut Rng) -> i32 {
         _ => rng.below(9) as i32,
     }
 }
+
+#[cfg(test)]
+mod tests {
+    use super::*;
+
+    /// The four ends of an unsigned number of four bytes: every Int of a case is drawn by `int`.
+    #[test]
+    fn ints_are_drawn_at_their_four_ends() {
+        let mut rng = Rng::new(3, 0);
+        let drawn: Vec<i32> = (0..1_000).map(|_| int(&mut rng)).collect();
+        for end in [0, i32::MAX, i32::MIN, -1] {
+            assert!(drawn.contains(&end), "{end}");
+        }
+    }
+}

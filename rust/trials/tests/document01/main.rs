@@ -1,8 +1,9 @@
-//! What document 01 says, case by case, put to the second evaluator. The cases of `sheet_l` and `stops` are put to `crate::ask`, so that
-//! another test can put them to another engine.
+//! What documents 01 and 02 say, case by case, put to the second evaluator. The cases of `ints`, `sheet_l` and `stops` are put to
+//! `crate::ask`, so that another test can put them to another engine.
 
 mod common;
 mod comparing;
+mod ints;
 mod page;
 mod sheet_l;
 mod stops;
