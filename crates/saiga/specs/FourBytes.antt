@@ -7,6 +7,7 @@ use lib.IntN.{ℤ, pos, negsuc}
 use lib.Signed.{_≤ℤ_}
 use Rattle.saiga.specs.Values.{lowest, highest, wordLimit, signBit, signed, unsigned}
 
+-- The four ends of a number of four bytes.
 abbrev pub FourEnds : Type 0
 FourEnds =
     (signed 0 ≡ pos 0)
@@ -18,6 +19,7 @@ FourEnds =
 abbrev pub TwosComplement : Type 0
 TwosComplement = (u : ℕ) → u < wordLimit → signed u ≡ cond (ltb u signBit) (pos u) (negsuc (wordLimit - 1 - u))
 
+-- Int is −2,147,483,648 to 2,147,483,647.
 pub record IsInt (z : ℤ) : Type 0 where
   pub from-lowest : lowest ≤ℤ z
   pub to-highest : z ≤ℤ highest

@@ -13,7 +13,7 @@ use Rattle.sofretu.specs.Six.{inSigned}
 use Rattle.sofretu.proofs.signed.Statement.{statement}
 use Rattle.sofretu.proofs.signed.Tie as tie
 
--- -1 - n is -(n + 1), here of a number n with the top bit clear.
+-- -1 - n is -(n + 1), and so it is of n read from its bits, where the top bit is clear.
 turned : (n : ℕ) → negsuc 0 -ℤ pos n ≡ negsuc n
 turned zero = refl
 turned (suc n) = ap (λ k. negsuc (suc k)) (zero-add n)
