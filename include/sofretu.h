@@ -49,8 +49,10 @@ typedef struct {
 /* The numbers of an answer. */
 #define SOFRETU_FIELDS 6
 
-/* A store's entry has 12 bytes: node (2), attribute (1), zero (1), parameter (4), value (4), little-endian. A store has room for 0 to
- * 1,024 of them, and its length is 12 times that; `kept` of them, the first ones, are in use. */
+/* A store's entry has 12 bytes: node (2), attribute (1), type (1), parameter (4), value (4), little-endian. `type` is that of the value: 0 Unit,
+ * 1 Bool, 2 Int, 3 Node. In four bytes a Unit is 0, a Bool 0 or 1, an Int in two's complement, a Node its number, or 65535 for null; the
+ * parameter's type is the sheet's affair. A store has room for 0 to 1,024 entries, and its length is 12 times that; `kept` of them, the
+ * first ones, are in use. Entries that are lent stay as they are, byte for byte. */
 #define SOFRETU_ENTRY 12
 #define SOFRETU_MOST_ENTRIES 1024
 
@@ -81,7 +83,7 @@ enum {
     SOFRETU_NO_DEFINITION = 8,     /* a pair has neither figure nor rule */
     /* the program that lends the store */
     SOFRETU_STORE_SHAPE = 9,       /* length no multiple of 12 or over 12,288, or kept above the capacity */
-    SOFRETU_STORE_ENTRY = 10,      /* a kept entry is none of this sheet's, or repeats an occurrence */
+    SOFRETU_STORE_ENTRY = 10,      /* a kept entry is none of this sheet's, its type not the attribute's, or repeats an occurrence */
     /* the person who puts the question */
     SOFRETU_BUDGET = 11,           /* above 1,000,000 */
     SOFRETU_QUESTION_FORM = 12,    /* not an expression of 1 to 256 bytes */

@@ -9,12 +9,13 @@ use lib.Dec.{leb}
 use borrow.Author.Tests.{leb-false}
 use lib.ListN.{length, getD}
 use Rattle.saiga.specs.Limits.{entryLimit}
-use Rattle.saiga.specs.Values.{toWord}
+use Rattle.saiga.specs.declared.Fields.{Fields}
+use Rattle.saiga.specs.declared.Value.{Value}
 use Rattle.stores.specs.declared.Key.{Key}
 use Rattle.stores.specs.declared.Found.{Found}
 use Rattle.stores.specs.declared.Found.the-variants.{Nothing, At}
 use Rattle.stores.specs.Walks.{Keyed, Free}
-use Rattle.stores.specs.Keys.{findKey, foundOf, FreeIn, EntryPut}
+use Rattle.stores.specs.Keys.{findKey, foundOf, FreeIn, keyIn, fieldsFor, EntryPut}
 use Rattle.stores.proofs.Searches.{nothing-found, found-at}
 use Rattle.engine.specs.declared.Registers.{Registers}
 use Rattle.engine.specs.Ready.{memoryOf, innermostPlace}
@@ -30,20 +31,39 @@ not-kept store kept q r cell nothing found = nothing-found _ _ found refl nothin
 pub free-cell : (links : List ℕ) (q : Key) (r : Found) (cell : ℕ) → r ≡ Nothing cell → FreeIn links q r → Free links q cell
 free-cell links q r cell nothing free = rw nothing at free
 
+-- The numbers of the entry that keeps a value for a key have the key.
+module _ (q : Key) (v : Value) (f : Fields) (are : f ≡ fieldsFor q v) where
+  fields-key : keyIn f ≡ q
+  unfolding keyIn fieldsFor
+  fields-key = ap keyIn are
+
+  pub fields-keyed : Keyed q → Keyed (keyIn f)
+  fields-keyed keyed = rw fields-key keyed
+
+  pub fields-new : (store : List ℕ) (kept : ℕ) → findKey store kept q ≡ none → findKey store kept (keyIn f) ≡ none
+  fields-new store kept new = rw fields-key new
+
+  pub fields-free : (links : List ℕ) (cell : ℕ) → Free links q cell → Free links (keyIn f) cell
+  fields-free links cell free = rw fields-key free
+
+-- CacheWrite of the same numbers
+pub writes-same : (store : List ℕ) (kept : ℕ) (f g : Fields) (after : List ℕ × ℕ) → f ≡ g → after ≡ cacheWrite store kept f → after ≡ cacheWrite store kept g
+writes-same store kept f g after same written = written ∙ ap (cacheWrite store kept) same
+
 module _ (store : List ℕ) (kept : ℕ) (full : Bool) (is : full ≡ leb (length store / 12) kept) where
-  module _ (q : Key) (value : ℕ) where
-    pub write-full : full ≡ true → (store, kept) ≡ cacheWrite store kept q value
-    unfolding cacheWrite
-    write-full taken = rw (sym is ∙ taken)
+  pub write-full : (f : Fields) → full ≡ true → (store, kept) ≡ cacheWrite store kept f
+  unfolding cacheWrite
+  write-full f taken = rw (sym is ∙ taken)
 
-    pub write-known : (r : Found) (j : ℕ) → full ≡ false → foundOf r ≡ findKey store kept q → r ≡ At j → (store, kept) ≡ cacheWrite store kept q value
-    unfolding cacheWrite unlessFound
-    write-known r j room found at-j = rw (sym is ∙ room, found-at _ _ found refl _ at-j)
+  pub write-known : (q : Key) (v : Value) (r : Found) (j : ℕ) → full ≡ false → foundOf r ≡ findKey store kept q → r ≡ At j
+      → (store, kept) ≡ cacheWrite store kept (fieldsFor q v)
+  unfolding cacheWrite unlessFound keyIn fieldsFor
+  write-known q v r j room found at-j = rw (sym is ∙ room, found-at _ _ found refl _ at-j)
 
-    pub write-new : (store′ index′ : List ℕ) → full ≡ false → findKey store kept q ≡ none → EntryPut store kept q value store′ index′
-        → (store′, kept + 1) ≡ cacheWrite store kept q value
-    unfolding cacheWrite unlessFound appended
-    write-new store′ index′ room absent put = rw (sym is ∙ room, absent, put .bytes)
+  pub write-new : (f : Fields) (store′ index′ : List ℕ) → full ≡ false → findKey store kept (keyIn f) ≡ none → EntryPut store kept f store′ index′
+      → (store′, kept + 1) ≡ cacheWrite store kept f
+  unfolding cacheWrite unlessFound appended
+  write-new f store′ index′ room absent put = rw (sym is ∙ room, absent, put .bytes)
 
   -- A store that is not full has room for an entry.
   module _ (room : full ≡ false) where
@@ -77,10 +97,10 @@ module _ (run : List ℕ) (m : Registers) (f : ℕ) (is : f ≡ innermostPlace m
       }
 
   -- It is closed with what CacheWrite leaves.
-  pub closes : (store store′ : List ℕ) (kept′ w : ℕ) → w ≡ toWord (m .value) → (store′, kept′) ≡ cacheWrite store (m .kept) closing w
+  pub closes : (store store′ : List ℕ) (kept′ : ℕ) → (store′, kept′) ≡ cacheWrite store (m .kept) (fieldsFor closing (m .value))
       → goes (closed kept′) (memoryOf store′ run) ≡ closeForm (memoryOf store run) m
   unfolding closeForm
-  closes store store′ kept′ w is-word written =
+  closes store store′ kept′ written =
       let k = 4 * (m .forms - 1) in
       rw (
         ← form-at run k f is,
@@ -88,4 +108,4 @@ module _ (run : List ℕ) (m : Registers) (f : ℕ) (is : f ≡ innermostPlace m
         ← form-at run (k + 2) (f + 2) (omega (arith, is)),
         ← form-at run (k + 3) (f + 3) (omega (arith, is)),
       )
-      (ap (λ (w : List ℕ × ℕ). goes (closed (w .1)) (memoryOf (w .0) run)) (rw is-word at written))
+      (ap (λ (w : List ℕ × ℕ). goes (closed (w .1)) (memoryOf (w .0) run)) written)

@@ -9,6 +9,7 @@ use lib.ListN.{length, take, drop, getD, set, length-drop}
 use lib.Seq.{length-take-le}
 use borrow.Author.Tests.{le-leb, lt-leb, ne-eqb}
 use Rattle.saiga.specs.Values.{baseOf, isWord, nodeOf, ofBytes, ofWord, toWord}
+use Rattle.saiga.specs.declared.Fields.{Fields}
 use Rattle.saiga.specs.declared.Value.{Value}
 use Rattle.values.specs.Layout.{resultAt}
 use Rattle.sheets.specs.declared.lookup.FoundFigure.{FoundFigure}
@@ -18,7 +19,7 @@ use Rattle.sheets.proofs.Lookups.{RuleHere, rule-here}
 use Rattle.stores.specs.declared.Key.{Key}
 use Rattle.stores.specs.declared.Found.{Found}
 use Rattle.stores.specs.declared.Found.the-variants.{Nothing, At}
-use Rattle.stores.specs.Keys.{Linked, findKey, foundOf, valueWord}
+use Rattle.stores.specs.Keys.{Linked, findKey, foundOf, valueWord, fieldsFor}
 use Rattle.stores.proofs.Searches.{nothing-found, found-at, found-below}
 use Rattle.values.specs.Packed.{valueIn}
 use Rattle.engine.specs.declared.Registers.{Registers}
@@ -33,8 +34,12 @@ use Rattle.attributes.specs.Due.{WriteReady, FormReady, RuleReady, Attri
 -- ---- The figure, or the rule
 
 module _ (sheet index store links run : List ℕ) (m : Registers) (n a : ℕ) (ready : AttributeReady sheet index store links run m n a) where
-  pub attribute-small : a < 256
-  attribute-small = omega (arith, ready .pair .attribute, ready .pair .known .described .attributes-bound)
+  -- There is a frame to give the value to, and the step can be counted.
+  pub frame-there : 1 ≤ m .frames
+  frame-there = ready .form .frame .framed
+
+  pub step-fits : m .steps + 1 < 18446744073709551616
+  step-fits = ready .form .counts
 
   -- Where no figure is found, there is a rule.
   pub rule-ready : (r : FoundFigure) → figureOf r ≡ indexed (getD index (figurePlace n a) 0) (figureAt sheet a) → r ≡ NoFigure
@@ -55,12 +60,12 @@ module _ (sheet index store run : List ℕ) (m : Registers) (n a word : ℕ) (o 
   opens run′ r no-figure opened = rw (sym is ∙ ap figureOf no-figure) (opened store)
 
   -- A figure is answered with what CacheWrite leaves.
-  pub answers : (v : Value) (r : Registers) (store′ : List ℕ) (kept′ w : ℕ) → found ≡ Of v → r ≡ answered m kept′ v → w ≡ toWord v
-      → (store′, kept′) ≡ cacheWrite store (m .kept) record { node = n; attribute = a; word = word } w
+  pub answers : (v : Value) (r : Registers) (store′ : List ℕ) (kept′ : ℕ) (f : Fields) → found ≡ Of v → r ≡ answered m kept′ v
+      → f ≡ fieldsFor record { node = n; attribute = a; word = word } v → (store′, kept′) ≡ cacheWrite store (m .kept) f
       → goes r (memoryOf store′ run) ≡ openFigure sheet index (memoryOf store run) m n a word o
   unfolding openFigure
-  answers v r store′ kept′ w of by word-is written =
-      rw (by, sym is ∙ ap figureOf of) (ap (λ (w : List ℕ × ℕ). goes (answered m (w .1) v) (memoryOf (w .0) run)) (rw word-is at written))
+  answers v r store′ kept′ f of by are written =
+      rw (by, sym is ∙ ap figureOf of) (ap (λ (w : List ℕ × ℕ). goes (answered m (w .1) v) (memoryOf (w .0) run)) (rw are at written))
 
 -- A rule keeps nothing when it opens.
 pub opening-keeps : (sheet index store links run run′ : List ℕ) (m r : Registers) (n a word : ℕ)

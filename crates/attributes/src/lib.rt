@@ -5,7 +5,9 @@ use engine::Registers;
 use engine::Step;
 use engine::frames::ATTRIBUTES;
 use engine::frames::ON_FORM;
+use saiga::Fields;
 use saiga::NULL;
+use saiga::Value;
 use saiga::limits::ATTRIBUTE_LIMIT;
 use saiga::limits::DEPTH_LIMIT;
 use saiga::limits::ENTRY_WIDTH;
@@ -15,13 +17,13 @@ use stores::Key;
 ghost use mathlib.Core.List.{List};
 ghost use mathlib.Core.Option.{none};
 ghost use mathlib.Core.Path.{_≡_};
-ghost use Prim.Native.Nat.{ℕ, _/_, _%_, _≤_, _<_};
+ghost use Prim.Native.Nat.{ℕ, _/_, _%_, _<_};
 ghost use lib.Dec.{leb};
 ghost use lib.ListN.{length, getD};
 ghost use Rattle.saiga.specs.Limits.{entryWidth, depthLimit};
 ghost use Rattle.saiga.specs.Values.{null, toWord, nodeOf};
 ghost use Rattle.sheets.specs.Scan.{figurePlace, figureAt, indexed};
-ghost use Rattle.stores.specs.Keys.{Linked, findKey};
+ghost use Rattle.stores.specs.Keys.{Linked, findKey, keyIn, fieldsFor};
 ghost use Rattle.stores.specs.Walks.{Keyed, Free};
 ghost use Rattle.values.specs.Packed.{valueIn};
 ghost use Rattle.engine.specs.Steps.{goes, cacheWrite, closeForm, openRule, openFigure, takeKept, attributeDue};
@@ -39,30 +41,23 @@ fn is_full(store: &[u8], kept: usize) -> bool
 
 // CacheWrite of an occurrence that was looked for and is not kept: the entry is appended if the store is not full. `cell` is free for it in the store's
 // index. The kept number after it.
-fn keep(
-    store: &mut [u8],
-    links: &mut [u16],
-    kept: usize,
-    key: Key,
-    value: u32,
-    cell: usize,
-) -> usize
-    requires { ⌜ WriteReady (now store) (now links) kept × Keyed key ⌝ }
-    requires { ⌜ (findKey (now store) kept key ≡ none) × Free (now links) key cell ⌝ }
-    ensures { λ r. ⌜ (now (store .exit), r) ≡ cacheWrite (now (store .entry)) kept key value ⌝ }
+fn keep(store: &mut [u8], links: &mut [u16], kept: usize, e: Fields, cell: usize) -> usize
+    requires { ⌜ WriteReady (now store) (now links) kept × Keyed (keyIn e) ⌝ }
+    requires { ⌜ (findKey (now store) kept (keyIn e) ≡ none) × Free (now links) (keyIn e) cell ⌝ }
+    ensures { λ r. ⌜ (now (store .exit), r) ≡ cacheWrite (now (store .entry)) kept e ⌝ }
     ensures { λ r. ⌜ Linked (now (store .exit)) r (now (links .exit)) ⌝ }
 {
     if is_full(store, kept) {
         return kept;
     }
-    stores::append(store, kept, links, key, value, cell);
+    stores::append(store, kept, links, e, cell);
     kept + 1
 }
 
 // CacheWrite: as `keep`, if the occurrence is not kept. A full store is not searched.
-fn cache_write(store: &mut [u8], links: &mut [u16], kept: usize, key: Key, value: u32) -> usize
+fn cache_write(store: &mut [u8], links: &mut [u16], kept: usize, key: Key, value: Value) -> usize
     requires { ⌜ WriteReady (now store) (now links) kept × Keyed key ⌝ }
-    ensures { λ r. ⌜ (now (store .exit), r) ≡ cacheWrite (now (store .entry)) kept key value ⌝ }
+    ensures { λ r. ⌜ (now (store .exit), r) ≡ cacheWrite (now (store .entry)) kept (fieldsFor key value) ⌝ }
     ensures { λ r. ⌜ Linked (now (store .exit)) r (now (links .exit)) ⌝ }
 {
     if is_full(store, kept) {
@@ -71,7 +66,7 @@ fn cache_write(store: &mut [u8], links: &mut [u16], kept: usize, key: Key, value
     let Found::Nothing(cell) = stores::find(store, kept, links, key) else {
         return kept;
     };
-    keep(store, links, kept, key, value, cell)
+    keep(store, links, kept, stores::fields_for(key, value), cell)
 }
 
 // The value that a form waited for is kept, and given to the frame around it.
@@ -88,7 +83,7 @@ pub fn close_form(store: &mut [u8], links: &mut [u16], memory: &[u64], m: Regist
         attribute: (pair % ATTRIBUTES) as u32,
         word: memory[f + 1] as u32,
     };
-    let kept = cache_write(store, links, m.kept, key, values::word_of(value));
+    let kept = cache_write(store, links, m.kept, key, value);
     Registers {
         returning: true,
         at: memory[f + 2] as usize,
@@ -153,7 +148,7 @@ fn open_definition(
     let FoundFigure::Of(v) = found else {
         return open_rule(sheet, index, memory, m, key);
     };
-    let kept = keep(store, links, m.kept, key, values::word_of(v), cell);
+    let kept = keep(store, links, m.kept, stores::fields_for(key, v), cell);
     engine::answered(m, kept, v)
 }
 

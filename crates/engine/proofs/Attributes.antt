@@ -28,7 +28,7 @@ use Rattle.saiga.proofs.Preservation.{declared, either}
 use Rattle.sheets.specs.Scan.{figurePlace, figureAt, pieceAt, indexed, ruleNumber}
 use Rattle.sheets.proofs.Indexed.{attribute-by-index, kind-by-index, definition-by-index}
 use Rattle.values.proofs.Declared.{attributeIn}
-use Rattle.stores.specs.Keys.{findKey}
+use Rattle.stores.specs.Keys.{findKey, fieldsFor}
 use Rattle.engine.specs.RunningPiece.{pieceIn, restOf}
 use Rattle.values.specs.Packed.{valueIn}
 use Rattle.engine.specs.Machine.{Frame, on-if, on-left, on-skip, on-right, on-node, on-parameter, on-form, returning, Machine, openForms, plug, termOf, stateOf, moves, takes, counted, defined, applied, give, moveOf, move}
@@ -256,7 +256,7 @@ module _ {sheet index question : List ℕ} {mem : Memory} {m : Registers} (r : R
   value-typed fs e = rw (mode-is, e) at (r .typed)
 
   write-at : (o : Occurrence) (v : Value) → OccurrenceIn (nodeCount s) (s .attributes) o → IsA (nodeCount s) (attributeAt (s .attributes) (o .attribute) .result) v
-      → Written s (mem .store) (write (length (mem .store) / 12) entries record { occurrence = o; value = v }) (cacheWrite (mem .store) (m .kept) (keyOf o) (toWord v))
+      → Written s (mem .store) (write (length (mem .store) / 12) entries record { occurrence = o; value = v }) (cacheWrite (mem .store) (m .kept) (fieldsFor (keyOf o) v))
   write-at o v o-in v-in =
       cache-write s (r .index-of .described .nodes-bound) (mem .store) (m .kept) entries (r .holds .stored) (by-key _ _ _ (r .holds .stored)) o v o-in v-in
 

@@ -1,54 +1,52 @@
 -- What a move does to the store's bytes: nothing, or an entry is written behind those that are kept. So the bytes stay those that a
 -- call leaves.
-use mathlib.Core.Bool.{Bool, true, false, and-eq-true-iff}
+use mathlib.Core.Bool.{Bool, true, false}
 use mathlib.Core.Option.{Option, none, some}
-use mathlib.Core.List.{List, [], _∷_, _++_, append-assoc}
-use mathlib.Core.Path.{_≡_, refl, _∙_, ap}
+use mathlib.Core.List.{List, [], _∷_, _++_}
+use mathlib.Core.Path.{_≡_, refl, sym, _∙_, ap}
 use Prim.Native.Nat.{ℕ, zero, suc, _+_, _*_, _/_, _%_, _≤_, _<_}
 use native.Mathlib.Numerals.{add-one}
 use native.Mathlib.Omega.{arith}
 use lib.Dec.{leb, eqb}
-use lib.ListN.{length, take, drop, getD, length-take, length-append, length-drop}
-use lib.Seq.{take-at, drop-at, length-take-le}
+use lib.ListN.{length}
 use borrow.Author.Tests.{leb-false}
-use Rattle.saiga.specs.Values.{null, ofBytes, toBytes, isWord, truth}
+use Rattle.saiga.specs.Values.{null, ofBytes, toBytes, truth}
 use Rattle.saiga.specs.declared.Value.{Value}
 use Rattle.saiga.specs.Expressions.{Head, base-literal, function-literal, if-head, application-head, attribute-head, this-head, parameter-head, no-head, headOf}
-use Rattle.saiga.specs.Types.{attributeAt}
-use Rattle.saiga.specs.Sheet.{Sheet, nodeCount, accepted}
+use Rattle.saiga.specs.Sheet.{Sheet, accepted}
 use Rattle.saiga.specs.Caching.{Entry}
-use Rattle.saiga.specs.Store.{fieldBytes, fieldsOf, fieldsFor, entryBytes, entryOf, isEntry, readEntries, checkStore, leftStore}
+use Rattle.saiga.specs.Store.{fieldBytes, fieldsOf, entryFields, entryBytes, entryOf, isEntry, readEntries, checkStore, leftStore}
 use Rattle.saiga.proofs.Preservation.{either}
-use Rattle.saiga.proofs.FourBytes.{word-trip}
-use Rattle.saiga.proofs.Entries.{first-bytes, store-in}
-use Rattle.stores.specs.declared.Key.{Key}
-use Rattle.stores.specs.Keys.{findKey, entriesIn, recordOf, putAt}
+use Rattle.saiga.proofs.FourBytes.{word-trip, word-in, in-code}
+use Rattle.saiga.proofs.Entries.{passes, first-bytes, store-in}
+use Rattle.saiga.specs.declared.Fields.{Fields}
+use Rattle.stores.specs.Keys.{findKey, keyIn, entriesIn, putAt}
 use Rattle.stores.proofs.ByKey.{entries-are, entries-last}
-use Rattle.stores.proofs.Written.{left-more}
+use Rattle.stores.proofs.Written.{put-length, put-before, put-there, left-more}
 use Rattle.engine.specs.FrameWords.{kindOf, ifKind, leftKind, skipKind, rightKind, nodeKind, formKind}
 use Rattle.engine.specs.Steps.{Memory, Stepped, goes, waits, finishes, stops, readHead, appended, unlessFound, cacheWrite, closeForm, takeIf, within, openRule, openFigure, takeKept, attributeDue, give, readNext, stepOf}
 use Rattle.engine.specs.declared.Registers.{Registers}
 
 -- ---- Moves
 
--- The store and the kept number after a move: as before, or with one record more.
+-- The store and the kept number after a move: as before, or with one entry more.
 pub data Changed (store : List ℕ) (kept : ℕ) (store′ : List ℕ) (kept′ : ℕ) : Type 0 where
   same : store′ ≡ store → kept′ ≡ kept → Changed store kept store′ kept′
-  more : (q : Key) (w : ℕ) → kept < length store / 12 → store′ ≡ appended store kept q w → kept′ ≡ kept + 1 → Changed store kept store′ kept′
+  more : (f : Fields) → kept < length store / 12 → store′ ≡ putAt store kept (fieldBytes f) → kept′ ≡ kept + 1 → Changed store kept store′ kept′
 
 unchanged : {store : List ℕ} {kept : ℕ} → Changed store kept store kept
 unchanged = same refl refl
 
-write-changes : (store : List ℕ) (kept : ℕ) (q : Key) (w : ℕ) → Changed store kept (cacheWrite store kept q w .0) (cacheWrite store kept q w .1)
-unfolding cacheWrite unlessFound
-write-changes store kept q w =
-    either P (leb (length store / 12) kept) (λ _. unchanged) (λ room. go (leb-false _ _ room) (findKey store kept q))
+write-changes : (store : List ℕ) (kept : ℕ) (f : Fields) → Changed store kept (cacheWrite store kept f .0) (cacheWrite store kept f .1)
+unfolding cacheWrite unlessFound appended
+write-changes store kept f =
+    either P (leb (length store / 12) kept) (λ _. unchanged) (λ room. go (leb-false _ _ room) (findKey store kept (keyIn f)))
   where
     P : List ℕ × ℕ → Type 0
     P r = Changed store kept (r .0) (r .1)
 
-    go : kept < length store / 12 → (f : Option ℕ) → P (unlessFound store kept q w f)
-    go room none = more q w room refl refl
+    go : kept < length store / 12 → (found : Option ℕ) → P (unlessFound store kept f found)
+    go room none = more f room refl refl
     go room (some j) = unchanged
 
 abbrev Moves : Memory → Registers → Stepped → Type 0
@@ -89,7 +87,7 @@ module _ (sheet index : List ℕ) (mem : Memory) (m : Registers) where
   figure-moves : (n a word : ℕ) (f : Option Value) → P (openFigure sheet index mem m n a word f)
   unfolding openFigure openRule
   figure-moves n a word none = unchanged
-  figure-moves n a word (some v) = write-changes (mem .store) (m .kept) _ _
+  figure-moves n a word (some v) = write-changes (mem .store) (m .kept) _
 
   kept-moves : (n a : ℕ) (f : Option ℕ) → P (takeKept sheet index mem m n a f)
   unfolding takeKept
@@ -112,7 +110,7 @@ module _ (sheet index : List ℕ) (mem : Memory) (m : Registers) where
       either P (eqb (kindOf w) skipKind) (λ _. unchanged) λ _.
       either P (eqb (kindOf w) rightKind) (λ _. within-moves budget limit _ unchanged) λ _.
       either P (eqb (kindOf w) nodeKind) (λ _. unchanged) λ _.
-      either P (eqb (kindOf w) formKind) (λ _. write-changes (mem .store) (m .kept) _ _) λ _.
+      either P (eqb (kindOf w) formKind) (λ _. write-changes (mem .store) (m .kept) _) λ _.
       attribute-moves budget limit _ _
 
   store-moves-to : (question : List ℕ) (budget limit skip packed : ℕ) → P (stepOf sheet index question budget limit skip packed mem m)
@@ -138,63 +136,37 @@ bytes-again (suc k) n =
     let high : (n % 256 + 256 * rest) / 256 ≡ rest = omega arith in
     rw (low, high, bytes-again k (n / 256))
 
--- the words of a record that passes
-record-words : (s : Sheet) (before : List Entry) (l : List ℕ) → isEntry s before l ≡ true
-    → (isWord (nodeCount s) (attributeAt (s .attributes) (fieldsOf l .attribute) .parameter-type) (fieldsOf l .parameter) ≡ true)
-    × (isWord (nodeCount s) (attributeAt (s .attributes) (fieldsOf l .attribute) .result) (fieldsOf l .value) ≡ true)
-unfolding isEntry
-record-words s before l e = let t = simp and-eq-true-iff at e in (t .0 .0 .1, t .0 .1)
+-- Bytes that pass are those of the entry that is read from them.
+entry-again : (s : Sheet) (before : List Entry) (f : Fields) → isEntry s before (fieldBytes f) ≡ true → entryBytes (entryOf s (fieldBytes f)) ≡ fieldBytes f
+unfolding entryFields entryBytes entryOf fieldBytes fieldsOf toBytes
+entry-again s before f passed =
+    let p = passes s before (fieldBytes f) passed in
+    let code = in-code (word-in _ _ _ (p .value-word)) ∙ sym (p .type-code) in
+    let parameter = ap (toBytes 4) (word-trip _ _ _ (p .parameter-word)) ∙ bytes-again 4 (f .parameter) in
+    let value = ap (toBytes 4) (word-trip _ _ _ (p .value-word)) ∙ bytes-again 4 (f .value) in
+    λ i. bytes-again 2 (f .node) i ++ f .attribute ∷ code i ∷ parameter i ++ value i
 
--- A record that passes is the bytes of the entry that is read from it.
-record-trip : (s : Sheet) (before : List Entry) (q : Key) (w : ℕ) → isEntry s before (recordOf q w) ≡ true → entryBytes (entryOf s (recordOf q w)) ≡ recordOf q w
-unfolding entryBytes entryOf recordOf fieldBytes fieldsOf fieldsFor toBytes
-record-trip s before q w passes =
-    let (p, v) = record-words s before (recordOf q w) passes in
-    let parameter = ap (toBytes 4) (word-trip _ _ _ p) ∙ bytes-again 4 (q .word) in
-    let value = ap (toBytes 4) (word-trip _ _ _ v) ∙ bytes-again 4 w in
-    λ i. bytes-again 2 (q .node) i ++ q .attribute ∷ 0 ∷ parameter i ++ value i
+-- ---- The store with one entry more
 
--- ---- The store with one record more
-
-module _ (s : Sheet) (store : List ℕ) (k : ℕ) (q : Key) (w : ℕ) (room : k < length store / 12) where
+module _ (s : Sheet) (store : List ℕ) (k : ℕ) (f : Fields) (room : k < length store / 12) where
   abbrev after : List ℕ
-  after = appended store k q w
+  after = putAt store k (fieldBytes f)
 
-  front-length : length (take (12 * k) store) ≡ 12 * k
-  front-length = length-take-le (12 * k) store (omega arith)
+  fits : 12 * k + 12 ≤ length store
+  fits = omega arith
 
-  record-length : length (recordOf q w) ≡ 12
-  unfolding recordOf fieldBytes fieldsFor toBytes
-  record-length = refl
-
-  after-is : after ≡ take (12 * k) store ++ (recordOf q w ++ drop (12 * k + 12) store)
-  unfolding appended putAt
-  after-is = append-assoc (take (12 * k) store) (recordOf q w) (drop (12 * k + 12) store)
-
-  after-put : after ≡ putAt store k (recordOf q w)
-  unfolding appended
-  after-put = refl
-
-  after-length : length after ≡ length store
-  after-length = rw after-is (simp (length-append, length-take, length-drop, record-length) (omega arith))
-
-  record-at : take 12 (drop (12 * k) after) ≡ recordOf q w
-  record-at = rw (after-is, drop-at (take (12 * k) store) (recordOf q w ++ drop (12 * k + 12) store) (12 * k) front-length) (take-at (recordOf q w) _ 12 record-length)
-
-  same-front : take (12 * k) after ≡ take (12 * k) store
-  same-front = rw after-is (take-at (take (12 * k) store) _ (12 * k) front-length)
-
-  -- What is read is one entry more, whose bytes the record is.
+  -- What is read is one entry more, whose bytes these are.
   one-more : (es es′ : List Entry) → checkStore s store k ≡ accepted es → checkStore s after (k + 1) ≡ accepted es′
-      → (e : Entry) × (es′ ≡ es ++ e ∷ []) × (entryBytes e ≡ recordOf q w)
+      → (e : Entry) × (es′ ≡ es ++ e ∷ []) × (entryBytes e ≡ fieldBytes f)
   unfolding entriesIn
-  one-more es es′ before passes =
-      let reads : readEntries s (suc k) [] after ≡ accepted es′ = rw add-one at (store-in s after (k + 1) es′ passes .reads) in
+  one-more es es′ before passed =
+      let reads : readEntries s (suc k) [] after ≡ accepted es′ = rw add-one at (store-in s after (k + 1) es′ passed .reads) in
       let all = entries-are s after (suc k) es′ reads in
       let last = entries-last s after k (rw all at reads) in
-      let first : readEntries s k [] after ≡ accepted es = first-bytes s k [] store after same-front ∙ store-in s store k es before .reads in
+      let first : readEntries s k [] after ≡ accepted es = first-bytes s k [] store after (sym (put-before store k fits f)) ∙ store-in s store k es before .reads in
       let olds : es ≡ entriesIn s after k = entries-are s after k es first in
-      (entryOf s (recordOf q w), all ∙ rw (record-at, ← olds) refl, record-trip s (entriesIn s after k) q w (rw record-at at (last .passes)))
+      let there = put-there store k fits f in
+      (entryOf s (fieldBytes f), all ∙ rw (there, ← olds) refl, entry-again s (entriesIn s after k) f (rw there at (last .passes)))
 
 -- The bytes stay those that a call leaves which was lent the store `first` with so many kept entries.
 pub left-on : (s : Sheet) (first : List ℕ) (lent : ℕ) {store : List ℕ} {k : ℕ} {store′ : List ℕ} {k′ : ℕ} {es es′ : List Entry}
@@ -204,8 +176,8 @@ pub left-on : (s : Sheet) (first : List ℕ) (lent : ℕ) {store : List ℕ} {k 
 left-on s first lent {es} {es′} (same e f) before passes size enough left =
     let entries : es ≡ es′ = let p = rw (e, f) at passes in cc in
     (rw (e, ← entries) left, rw e size, rw f enough)
-left-on s first lent {store} {k} {es} {es′} (more q w room e f) before passes size enough left =
-    let (n, appends, bytes) = one-more s store k q w room es es′ before (rw (e, f) at passes) in
+left-on s first lent {store} {k} {es} {es′} (more g room e f) before passed size enough left =
+    let (n, appends, bytes) = one-more s store k g room es es′ before (rw (e, f) at passed) in
     let count = store-in s store k es before .count in
     let grown = left-more first lent es (omega arith) (omega arith) n in
-    (cc (after-put s store k q w room), rw (e, after-length s store k q w room) size, rw f (omega arith))
+    (cc, rw (e, put-length store k (fits s store k g room) g) size, rw f (omega arith))

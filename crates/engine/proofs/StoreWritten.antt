@@ -15,12 +15,12 @@ use Rattle.saiga.specs.Types.{attributeAt}
 use Rattle.saiga.specs.Sheet.{Sheet, nodeCount, accepted}
 use Rattle.saiga.specs.Terms.{Occurrence}
 use Rattle.saiga.specs.Caching.{Entry, kept, isKept, write}
-use Rattle.saiga.specs.Store.{entryBytes, checkStore, entriesBytes, leftStore}
+use Rattle.saiga.specs.Store.{entryFields, entryBytes, checkStore, entriesBytes, leftStore}
 use Rattle.saiga.specs.Sound.{IsA, OccurrenceIn, EntryIn, all-none, all-cons}
 use Rattle.saiga.proofs.Keeping.{write-full}
 use Rattle.saiga.proofs.Entries.{store-in, left-length, left-passes}
 use Rattle.stores.specs.declared.Key.{Key}
-use Rattle.stores.specs.Keys.{findKey, valueWord, recordOf, putAt}
+use Rattle.stores.specs.Keys.{findKey, keyIn, valueWord, fieldsFor, putAt}
 use Rattle.engine.specs.Steps.{appended, unlessFound, cacheWrite}
 
 -- an occurrence in bytes
@@ -48,15 +48,15 @@ module _ (s : Sheet) (few : nodeCount s ≤ 1024) (store : List ℕ) (k : ℕ) (
   count = store-in s store k entries passes .count
 
   -- the bytes of one more entry
-  appended-is : appended store k (keyOf o) (toWord v) ≡ leftStore store k (entries ++ new ∷ [])
-  unfolding appended putAt recordOf leftStore entryBytes entriesBytes
+  appended-is : appended store k (fieldsFor (keyOf o) v) ≡ leftStore store k (entries ++ new ∷ [])
+  unfolding appended putAt fieldsFor leftStore entryFields entryBytes entriesBytes
   appended-is = rw (drop-at entries (new ∷ []) k count, append-nil, after) refl
     where
       after : 12 * length (entries ++ new ∷ []) ≡ 12 * k + 12
       after = rw length-append (omega (arith, count))
 
   unless-found : k < length store / 12 → (f : Option ℕ) → findKey store k (keyOf o) ≡ f
-      → Written s store (write (length store / 12) entries new) (unlessFound store k (keyOf o) (toWord v) f)
+      → Written s store (write (length store / 12) entries new) (unlessFound store k (fieldsFor (keyOf o) v) f)
   unfolding unlessFound write isKept
   unless-found room none e =
       let one-more : length (entries ++ new ∷ []) ≡ k + 1 = rw length-append (omega (arith, count)) in
@@ -70,11 +70,11 @@ module _ (s : Sheet) (few : nodeCount s ≤ 1024) (store : List ℕ) (k : ℕ) (
       })
   unless-found room (some j) e = rw (by-key .found o j o-in e) (record { passes = passes; same-length = refl })
 
-  pub cache-write : Written s store (write (length store / 12) entries new) (cacheWrite store k (keyOf o) (toWord v))
-  unfolding cacheWrite
+  pub cache-write : Written s store (write (length store / 12) entries new) (cacheWrite store k (fieldsFor (keyOf o) v))
+  unfolding cacheWrite keyIn fieldsFor
   cache-write = go (leb (length store / 12) k) refl
     where
       go : (b : Bool) → leb (length store / 12) k ≡ b
-          → Written s store (write (length store / 12) entries new) (cond b (store, k) (unlessFound store k (keyOf o) (toWord v) (findKey store k (keyOf o))))
+          → Written s store (write (length store / 12) entries new) (cond b (store, k) (unlessFound store k (fieldsFor (keyOf o) v) (findKey store k (keyOf o))))
       go true e = rw (write-full (length store / 12) entries new (omega (arith, leb-true, count))) (record { passes = passes; same-length = refl })
       go false e = unless-found (leb-false _ _ e) (findKey store k (keyOf o)) refl

@@ -2,7 +2,7 @@
 use mathlib.Core.Bool.{Bool, true, false, cond}
 use mathlib.Core.Option.{Option, none, some}
 use mathlib.Core.List.{List, [], _∷_}
-use Prim.Native.Nat.{ℕ, _+_, _*_, _-_, _/_, _%_}
+use Prim.Native.Nat.{ℕ, _+_, _*_, _-_, _/_}
 use lib.Dec.{leb, eqb}
 use lib.ListN.{length, take, drop, getD, set}
 use Rattle.saiga.specs.Limits.{entryWidth, depthLimit}
@@ -15,8 +15,10 @@ use Rattle.values.specs.Layout.{resultAt}
 use Rattle.values.specs.Packed.{valueIn}
 use Rattle.engine.specs.FrameWords.{pairOf, pairNode, pairAttribute, kindOf, ifKind, leftKind, skipKind, rightKind, nodeKind, formKind, rightWord, heldFunction, nodeWord, heldAttribute, parameterWord, heldNode}
 use Rattle.sheets.specs.Scan.{figurePlace, figureAt, indexed, ruleNumber}
+use Rattle.saiga.specs.declared.Fields.{Fields}
+use Rattle.saiga.specs.Store.{fieldBytes}
 use Rattle.stores.specs.declared.Key.{Key}
-use Rattle.stores.specs.Keys.{findKey, valueWord, recordOf, putAt}
+use Rattle.stores.specs.Keys.{findKey, keyIn, valueWord, fieldsFor, putAt}
 use Rattle.engine.specs.Decode.{formOccurrence}
 use Rattle.engine.specs.declared.Registers.{Registers}
 
@@ -77,23 +79,24 @@ abbrev pub turned : Registers → Registers
 turned m =
     record { returning = false; at = m .at; end = m .end; frames = m .frames; forms = m .forms; kept = m .kept; steps = m .steps; value = m .value }
 
--- CacheWrite on bytes: the store and the kept number after it
-unfoldable pub appended : List ℕ → ℕ → Key → ℕ → List ℕ
-appended store kept q value = putAt store kept (recordOf q value)
+-- CacheWrite on bytes, of an entry of these numbers: the store and the kept number after it
+unfoldable pub appended : List ℕ → ℕ → Fields → List ℕ
+appended store kept f = putAt store kept (fieldBytes f)
 
-unfoldable pub unlessFound : List ℕ → ℕ → Key → ℕ → Option ℕ → List ℕ × ℕ
-unlessFound store kept q value none = (appended store kept q value, kept + 1)
-unlessFound store kept q value (some j) = (store, kept)
+unfoldable pub unlessFound : List ℕ → ℕ → Fields → Option ℕ → List ℕ × ℕ
+unlessFound store kept f none = (appended store kept f, kept + 1)
+unlessFound store kept f (some j) = (store, kept)
 
-unfoldable pub cacheWrite : List ℕ → ℕ → Key → ℕ → List ℕ × ℕ
-cacheWrite store kept q value =
-    cond (leb (length store / entryWidth) kept) (store, kept) (unlessFound store kept q value (findKey store kept q))
+unfoldable pub cacheWrite : List ℕ → ℕ → Fields → List ℕ × ℕ
+cacheWrite store kept f =
+    cond (leb (length store / entryWidth) kept) (store, kept) (unlessFound store kept f (findKey store kept (keyIn f)))
 
 unfoldable pub closeForm : Memory → Registers → Stepped
 closeForm mem m =
     let f = 4 * (m .forms - 1) in
     let pair = getD (mem .forms) f 0 in
-    let w = cacheWrite (mem .store) (m .kept) record { node = pairNode pair; attribute = pairAttribute pair; word = getD (mem .forms) (f + 1) 0 } (toWord (m .value)) in
+    let q : Key = record { node = pairNode pair; attribute = pairAttribute pair; word = getD (mem .forms) (f + 1) 0 } in
+    let w = cacheWrite (mem .store) (m .kept) (fieldsFor q (m .value)) in
     goes record {
       returning = true;
       at = getD (mem .forms) (f + 2) 0;
@@ -142,7 +145,7 @@ module _ (sheet index : List ℕ) where
   unfoldable pub openFigure : Memory → Registers → ℕ → ℕ → ℕ → Option Value → Stepped
   openFigure mem m n a word none = openRule mem m n a word
   openFigure mem m n a word (some v) =
-      let w = cacheWrite (mem .store) (m .kept) record { node = n; attribute = a; word = word } (toWord v) in
+      let w = cacheWrite (mem .store) (m .kept) (fieldsFor record { node = n; attribute = a; word = word } v) in
       goes (answered m (w .1) v) record { store = w .0; words = mem .words; forms = mem .forms }
 
   -- AttrApp: a kept value before the definition

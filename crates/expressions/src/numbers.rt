@@ -12,12 +12,7 @@ ghost use Rattle.expressions.specs.Forms.{typeNumber, inferredNumber, in
 pub fn base_number(code: u8) -> u32
     ensures { λ r. ⌜ r ≡ baseCode (baseOf code) + 1 ⌝ }
 {
-    match code {
-        0 => 1,
-        1 => 2,
-        2 => 3,
-        _ => 4,
-    }
+    values::base_code(code) as u32 + 1
 }
 
 // The number of the type of the function with this code.

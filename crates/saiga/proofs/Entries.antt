@@ -7,42 +7,42 @@ use Prim.Native.Nat.{ℕ, zero, suc, _+_, _*_, _%_, _≤_, _<_}
 use native.Mathlib.Nat.{suc-add, zero-add, add-comm, mul-suc}
 use native.Mathlib.Omega.{arith}
 use lib.Dec.{leb, eqb}
-use lib.ListN.{length, take, drop, getD, length-append, length-take, length-drop}
+use lib.ListN.{length, take, drop, length-append, length-take, length-drop}
 use lib.Seq.{length-take-le, take-take, take-at, drop-at, append-snoc, take-nil, drop-drop}
 use borrow.Author.Tests.{ltb-true, leb-true, leb-false, eqb-true, lt-ltb, le-leb, eq-eqb, not-true}
-use Rattle.saiga.specs.Values.{Base, Value, ofBytes, toBytes, isWord, ofWord, toWord}
+use Rattle.saiga.specs.Values.{Base, baseCode, Value, ofBytes, toBytes, isWord, ofWord, toWord}
 use Rattle.saiga.specs.Expressions.{Expr}
 use Rattle.saiga.specs.Types.{attributeAt}
 use Rattle.saiga.specs.Sheet.{Sheet, nodeCount, attributeCount, refused_at-place_, accepted}
 use Rattle.saiga.specs.Caching.{Entry, kept, isKept, write, State, run}
-use Rattle.saiga.specs.Store.{fieldBytes, fieldsOf, fieldsFor, entryBytes, entryOf, isEntry, readEntries, capacity, checkStore, entriesBytes, leftStore}
+use Rattle.saiga.specs.Store.{fieldBytes, fieldsOf, entryFields, entryBytes, entryOf, isEntry, readEntries, capacity, checkStore, entriesBytes, leftStore}
 use Rattle.saiga.specs.Sound.{IsA, EntryIn, All, all-none, all-cons}
-use Rattle.saiga.proofs.FourBytes.{word-in, word-small, bytes-trip}
+use Rattle.saiga.proofs.FourBytes.{word-in, word-small, bytes-trip, in-code}
 use Rattle.saiga.proofs.Preservation.{either, run-case}
 
 -- ---- One entry
 
 pub entry-length : (e : Entry) → length (entryBytes e) ≡ 12
-unfolding fieldBytes fieldsFor entryBytes toBytes
+unfolding fieldBytes entryFields entryBytes toBytes
 entry-length e = refl
 
 -- What the tests of twelve bytes say.
-record Passes (s : Sheet) (before : List Entry) (l : List ℕ) : Type 0 where
-  node-declared : fieldsOf l .node < nodeCount s
-  attribute-declared : fieldsOf l .attribute < attributeCount s
-  zero-byte : fieldsOf l .fourth ≡ 0
-  parameter-word : isWord (nodeCount s) (attributeAt (s .attributes) (fieldsOf l .attribute) .parameter-type) (fieldsOf l .parameter) ≡ true
-  value-word : isWord (nodeCount s) (attributeAt (s .attributes) (fieldsOf l .attribute) .result) (fieldsOf l .value) ≡ true
-  not-kept : isKept (kept before (entryOf s l .occurrence)) ≡ false
+pub record Passes (s : Sheet) (before : List Entry) (l : List ℕ) : Type 0 where
+  pub node-declared : fieldsOf l .node < nodeCount s
+  pub attribute-declared : fieldsOf l .attribute < attributeCount s
+  pub type-code : fieldsOf l .code ≡ baseCode (attributeAt (s .attributes) (fieldsOf l .attribute) .result)
+  pub parameter-word : isWord (nodeCount s) (attributeAt (s .attributes) (fieldsOf l .attribute) .parameter-type) (fieldsOf l .parameter) ≡ true
+  pub value-word : isWord (nodeCount s) (attributeAt (s .attributes) (fieldsOf l .attribute) .result) (fieldsOf l .value) ≡ true
+  pub not-kept : isKept (kept before (entryOf s l .occurrence)) ≡ false
 
-passes : (s : Sheet) (before : List Entry) (l : List ℕ) → isEntry s before l ≡ true → Passes s before l
+pub passes : (s : Sheet) (before : List Entry) (l : List ℕ) → isEntry s before l ≡ true → Passes s before l
 unfolding isEntry
 passes s before l e =
     let t = simp and-eq-true-iff at e in
     record {
       node-declared = ltb-true _ _ (t .0 .0 .0 .0 .0);
       attribute-declared = ltb-true _ _ (t .0 .0 .0 .0 .1);
-      zero-byte = eqb-true _ _ (t .0 .0 .0 .1);
+      type-code = eqb-true _ _ (t .0 .0 .0 .1);
       parameter-word = t .0 .0 .1;
       value-word = t .0 .1;
       not-kept = not-true _ (t .1);
@@ -51,7 +51,7 @@ passes s before l e =
 is-entry : (s : Sheet) (before : List Entry) (l : List ℕ) → Passes s before l → isEntry s before l ≡ true
 unfolding isEntry
 is-entry s before l p =
-    simp (lt-ltb _ _ (p .node-declared), lt-ltb _ _ (p .attribute-declared), p .zero-byte, p .parameter-word, p .value-word, p .not-kept)
+    simp (lt-ltb _ _ (p .node-declared), lt-ltb _ _ (p .attribute-declared), eq-eqb _ _ (p .type-code), p .parameter-word, p .value-word, p .not-kept)
 
 module _ (s : Sheet) (e : Entry) (few : nodeCount s ≤ 1024) (h : EntryIn (nodeCount s) (s .attributes) e) where
   node-bytes : ofBytes (toBytes 2 (e .occurrence .node)) ≡ e .occurrence .node
@@ -61,7 +61,7 @@ module _ (s : Sheet) (e : Entry) (few : nodeCount s ≤ 1024) (h : EntryIn (node
   word-bytes {B} {v} i = bytes-trip 4 (toWord v) (word-small (nodeCount s) B (toWord v) (omega arith) (i .is-word))
 
   pub entry-trip : entryOf s (entryBytes e) ≡ e
-  unfolding entryOf entryBytes fieldsOf fieldBytes fieldsFor toBytes
+  unfolding entryOf entryBytes fieldsOf fieldBytes entryFields toBytes
   entry-trip i = record {
     occurrence = record {
       node = node-bytes i;
@@ -72,10 +72,10 @@ module _ (s : Sheet) (e : Entry) (few : nodeCount s ≤ 1024) (h : EntryIn (node
   }
 
   pub entry-passes : (before : List Entry) → isKept (kept before (e .occurrence)) ≡ false → isEntry s before (entryBytes e) ≡ true
-  entry-passes before q = is-entry s before (entryBytes e) (unfold entryBytes fieldsOf fieldBytes fieldsFor toBytes in record {
+  entry-passes before q = is-entry s before (entryBytes e) (unfold entryBytes fieldsOf fieldBytes entryFields toBytes in record {
     node-declared = rw node-bytes (h .occurrence-in .node-declared);
     attribute-declared = h .occurrence-in .attribute-declared;
-    zero-byte = refl;
+    type-code = in-code (h .value-in);
     parameter-word = rw (word-bytes (h .occurrence-in .parameter-in)) (h .occurrence-in .parameter-in .is-word);
     value-word = rw (word-bytes (h .value-in)) (h .value-in .is-word);
     not-kept = rw entry-trip q;

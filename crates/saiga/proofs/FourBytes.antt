@@ -9,7 +9,7 @@ use lib.IntN.{ℤ, pos, negsuc}
 use lib.ListN.{length}
 use lib.Signed.{mag}
 use borrow.Author.Tests.{ltb-true, ltb-false, eqb-true, eqb-false, lt-ltb, le-ltb, eq-eqb}
-use Rattle.saiga.specs.Values.{Base, unitT, boolT, intT, nodeT, base, Value, bool, int, typeOf, null, lowest, highest, held, equalZ, wordLimit, signBit, ofBytes, toBytes, signed, unsigned, bit, isWord, ofWord, toWord, typeCode, sameValue}
+use Rattle.saiga.specs.Values.{Base, unitT, boolT, intT, nodeT, baseCode, base, Value, unit, bool, int, node, typeOf, null, lowest, highest, held, equalZ, wordLimit, signBit, ofBytes, toBytes, signed, unsigned, bit, isWord, ofWord, toWord, typeCode, sameValue}
 use Rattle.saiga.specs.FourBytes.{TwosComplement, IsInt, WritingAndReading, FourEnds}
 use Rattle.saiga.specs.Sound.{IsA}
 
@@ -118,30 +118,36 @@ word-small nodes nodeT w n h = go (ltb w nodes) refl h
     go true e k = let l = ltb-true w nodes e in omega arith
     go false e k = let l = eqb-true w null k in omega arith
 
-type-of-word : (B : Base) (w : ℕ) → typeOf (ofWord B w) ≡ base B
-unfolding typeOf ofWord
-type-of-word unitT w = refl
-type-of-word boolT w = refl
-type-of-word intT w = refl
-type-of-word nodeT w = refl
+-- What holds of the four forms of base values holds of each value of a base type.
+module _ {A : Type 0} (f : Value → A) (g : Base → A) (at-unit : f unit ≡ g unitT) (at-bool : (b : Bool) → f (bool b) ≡ g boolT)
+    (at-int : (z : ℤ) → f (int z) ≡ g intT) (at-node : (n : ℕ) → f (node n) ≡ g nodeT) where
+  at-word : (B : Base) (w : ℕ) → f (ofWord B w) ≡ g B
+  unfolding ofWord
+  at-word unitT w = at-unit
+  at-word boolT w = at-bool _
+  at-word intT w = at-int _
+  at-word nodeT w = at-node _
 
+  at-value : {nodes : ℕ} {B : Base} {v : Value} → IsA nodes B v → f v ≡ g B
+  at-value {B} {v} i = rw (i .round-trip) at (at-word B (toWord v))
+
+-- its type, the code of its type, and that it is the same as itself
 pub in-type : {nodes : ℕ} {B : Base} {v : Value} → IsA nodes B v → typeOf v ≡ base B
-in-type {B} {v} i = rw (i .round-trip) at (type-of-word B (toWord v))
+unfolding typeOf
+in-type = at-value typeOf base refl (λ b. refl) (λ z. refl) (λ n. refl)
+
+pub in-code : {nodes : ℕ} {B : Base} {v : Value} → IsA nodes B v → typeCode v ≡ baseCode B
+unfolding typeCode
+in-code = at-value typeCode baseCode refl (λ b. refl) (λ z. refl) (λ n. refl)
 
 equalZ-refl : (z : ℤ) → equalZ z z ≡ true
 unfolding equalZ
 equalZ-refl (pos n) = eq-eqb n n refl
 equalZ-refl (negsuc n) = eq-eqb n n refl
 
-same-word : (B : Base) (w : ℕ) → sameValue (ofWord B w) (ofWord B w) ≡ true
-unfolding sameValue typeCode ofWord
-same-word unitT w = equalZ-refl _
-same-word boolT w = equalZ-refl _
-same-word intT w = equalZ-refl _
-same-word nodeT w = equalZ-refl _
-
 pub same-value-refl : {nodes : ℕ} {B : Base} {v : Value} → IsA nodes B v → sameValue v v ≡ true
-same-value-refl {B} {v} i = rw (i .round-trip) at (same-word B (toWord v))
+unfolding sameValue typeCode
+same-value-refl = at-value (λ v. sameValue v v) (λ B. true) (equalZ-refl _) (λ b. equalZ-refl _) (λ z. equalZ-refl _) (λ n. equalZ-refl _)
 
 -- ---- What the functions give
 

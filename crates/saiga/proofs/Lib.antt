@@ -2,6 +2,7 @@ pub mod TableL
 pub mod Misreadings
 pub mod TableStops
 pub mod TableStores
+pub mod TableTypes
 pub mod FourBytes
 pub mod Equality
 pub mod Inference

@@ -20,3 +20,4 @@ pub mod Rows
 pub mod Misreadings
 pub mod TableStops
 pub mod TableStores
+pub mod TableTypes

@@ -1,38 +1,45 @@
--- The store in bytes, and stops 9 and 10 (document 01, "The steps" and "Stops by origin").
+-- The store in bytes, and stops 9 and 10 (document 01, "The steps" and "Stops by origin"; document 02, F-6).
 use mathlib.Core.Bool.{Bool, true, false, not, _&&_, cond}
 use mathlib.Core.List.{List, [], _∷_, _++_}
 use Prim.Native.Nat.{ℕ, zero, suc, _*_, _/_, _%_}
 use lib.Dec.{leb, ltb, eqb}
 use lib.ListN.{length, take, drop, getD}
 use Rattle.saiga.specs.Limits.{entryWidth, storeLimit}
-use Rattle.saiga.specs.Values.{ofBytes, toBytes, isWord, ofWord, toWord}
+use Rattle.saiga.specs.Values.{baseCode, ofBytes, toBytes, isWord, ofWord, toWord, typeCode}
 use Rattle.saiga.specs.Types.{attributeAt}
 use Rattle.saiga.specs.Sheet.{Sheet, nodeCount, attributeCount, Checked, refused_at-place_, accepted}
 use Rattle.saiga.specs.Caching.{Entry, kept, isKept}
 use Rattle.saiga.specs.declared.Fields.{Fields}
 
--- "An entry is node (2), attribute (1), a zero byte, parameter (4), value (4)": the bytes of its numbers, and the numbers in its bytes.
+-- "An entry is node (2), attribute (1), a zero byte, parameter (4), value (4)", and "the fourth byte of an entry, zero until now, carries the
+-- type code of the entry's value": the bytes of its numbers, and the numbers in its bytes.
 unfoldable pub fieldBytes : Fields → List ℕ
-fieldBytes f = toBytes 2 (f .node) ++ f .attribute ∷ f .fourth ∷ toBytes 4 (f .parameter) ++ toBytes 4 (f .value)
+fieldBytes f = toBytes 2 (f .node) ++ f .attribute ∷ f .code ∷ toBytes 4 (f .parameter) ++ toBytes 4 (f .value)
 
 unfoldable pub fieldsOf : List ℕ → Fields
 fieldsOf l =
     record {
       node = ofBytes (take 2 l);
       attribute = getD l 2 0;
-      fourth = getD l 3 0;
+      code = getD l 3 0;
       parameter = ofBytes (take 4 (drop 4 l));
       value = ofBytes (take 4 (drop 8 l));
     }
 
--- the numbers of an entry that is kept, its parameter and its value in their four-byte forms
-unfoldable pub fieldsFor : ℕ → ℕ → ℕ → ℕ → Fields
-fieldsFor n a parameter value = record { node = n; attribute = a; fourth = 0; parameter = parameter; value = value }
+-- "CacheWrite writes it": the numbers of an entry that is kept, its parameter and its value in their four-byte forms.
+unfoldable pub entryFields : Entry → Fields
+entryFields e =
+    let o = e .occurrence in
+    record {
+      node = o .node;
+      attribute = o .attribute;
+      code = typeCode (e .value);
+      parameter = toWord (o .parameter);
+      value = toWord (e .value);
+    }
 
 unfoldable pub entryBytes : Entry → List ℕ
-entryBytes e =
-    let o = e .occurrence in
-    fieldBytes (fieldsFor (o .node) (o .attribute) (toWord (o .parameter)) (toWord (e .value)))
+entryBytes e = fieldBytes (entryFields e)
 
 -- the entry that twelve bytes hold, by the types of its attribute
 unfoldable pub entryOf : Sheet → List ℕ → Entry
@@ -44,13 +51,13 @@ entryOf s l =
       value = ofWord (t .result) (f .value);
     }
 
--- "10 a kept entry with undeclared node or attribute, nonzero fourth byte, bytes that are no value of the type, or an occurrence
--- already kept before it": `before` are the entries before it.
+-- "10 a kept entry with undeclared node or attribute, ..., bytes that are no value of the type, or an occurrence already kept before it",
+-- and of the type code "10 is given where it is not the attribute's result type": `before` are the entries before it.
 unfoldable pub isEntry : Sheet → List Entry → List ℕ → Bool
 isEntry s before l =
     let f = fieldsOf l in
     let t = attributeAt (s .attributes) (f .attribute) in
-    ltb (f .node) (nodeCount s) && ltb (f .attribute) (attributeCount s) && eqb (f .fourth) 0
+    ltb (f .node) (nodeCount s) && ltb (f .attribute) (attributeCount s) && eqb (f .code) (baseCode (t .result))
     && isWord (nodeCount s) (t .parameter-type) (f .parameter)
     && isWord (nodeCount s) (t .result) (f .value)
     && not (isKept (kept before (entryOf s l .occurrence)))

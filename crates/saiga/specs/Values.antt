@@ -195,8 +195,8 @@ toWord (node n) = n
 toWord (function f) = 0
 toWord (holding h) = 0
 
--- The type and the value that an answer brings. "A value is signed decimal, a Unit 0, a Bool 0 or 1, a Node its number or 65535."
--- An accepted question never ends with a function (Safety.antt), whose code 4 is no base type's.
+-- The type and the value that an answer brings; an entry carries the type too. "A value is signed decimal, a Unit 0, a Bool 0 or 1, a Node its
+-- number or 65535." An accepted question never ends with a function (Safety.antt), whose code 4 is no base type's.
 unfoldable pub typeCode : Value → ℕ
 typeCode unit = 0
 typeCode (bool b) = 1

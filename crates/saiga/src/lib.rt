@@ -34,11 +34,11 @@ pub enum Value {
     Holding(Holding),
 }
 
-// An entry of the store in numbers: its parameter and its value in their four-byte forms, and its fourth byte.
+// An entry of the store in numbers: its parameter and its value in their four-byte forms, and the code of the value's type.
 pub struct Fields {
     pub node: u32,
     pub attribute: u32,
-    pub fourth: u32,
+    pub code: u8,
     pub parameter: u32,
     pub value: u32,
 }

@@ -11,7 +11,7 @@ use lib.Dec.{eqb, ltb}
 use lib.ListN.{length, take, drop, length-append}
 use lib.Seq.{drop-drop}
 use borrow.Author.Tests.{ltb-true, eqb-true, eqb-false, eq-eqb, not-true, not-false}
-use Rattle.saiga.specs.Values.{Base, isWord, ofWord}
+use Rattle.saiga.specs.Values.{Base, baseCode, isWord, ofWord}
 use Rattle.saiga.specs.declared.Fields.{Fields}
 use Rattle.saiga.specs.declared.Value.{Value}
 use Rattle.saiga.specs.Types.{attributeAt}
@@ -132,7 +132,7 @@ module _ (s : Sheet) (store : List ℕ) (j : ℕ) where
   -- the tests of an entry, but for whether its occurrence was kept before
   unfoldable pub tests : Bool
   tests =
-      ltb (keyAt store j .node) (nodeCount s) && ltb (keyAt store j .attribute) (attributeCount s) && eqb (fieldsAt store j .fourth) 0
+      ltb (keyAt store j .node) (nodeCount s) && ltb (keyAt store j .attribute) (attributeCount s) && eqb (fieldsAt store j .code) (baseCode (resultType s (keyAt store j)))
       && isWord (nodeCount s) (parameterType s (keyAt store j)) (keyAt store j .word)
       && isWord (nodeCount s) (resultType s (keyAt store j)) (valueWord store j)
 

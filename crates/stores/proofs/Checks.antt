@@ -2,14 +2,13 @@
 use mathlib.Core.Bool.{Bool, true, false, not, _&&_, and-false}
 use mathlib.Core.List.{List, []}
 use mathlib.Core.Path.{_≡_, refl, sym, _∙_, ap}
-use Prim.Native.Nat.{ℕ, zero, suc, _+_, _*_, _/_, _%_, _≤_, _<_}
+use Prim.Native.Nat.{ℕ, _+_, _*_, _/_, _%_, _≤_, _<_}
 use native.Mathlib.Numerals.{add-one}
 use native.Mathlib.Omega.{arith}
 use lib.Dec.{ltb, eqb}
-use lib.ListN.{length, take, drop, getD}
-use lib.Seq.{getD-drop}
+use lib.ListN.{length, take, drop}
 use borrow.Author.Tests.{lt-ltb, le-ltb, le-leb, lt-leb, eq-eqb, ne-eqb, not-true, not-false}
-use Rattle.saiga.specs.Values.{baseOf, isWord}
+use Rattle.saiga.specs.Values.{baseCode, baseOf, isWord}
 use Rattle.saiga.specs.declared.Fields.{Fields}
 use Rattle.saiga.specs.Types.{attributeAt}
 use Rattle.values.specs.Cells.{emptied}
@@ -31,7 +30,7 @@ use Rattle.stores.proofs.ByKey.{tests, first-tests, entry-read, entry-r
 module _ (s : Sheet) (types : List ℕ) (attributes nodes : ℕ) (a : s .attributes ≡ attributesIn types attributes) (n : nodeCount s ≡ nodes) (store : List ℕ) (j : ℕ)
     (f : Fields) (e : f ≡ fieldsAt store j) where
   tests-are : isEntry s [] (take 12 (drop (12 * j) store)) ≡
-      (ltb (f .node) nodes && ltb (f .attribute) attributes && eqb (f .fourth) 0
+      (ltb (f .node) nodes && ltb (f .attribute) attributes && eqb (f .code) (baseCode (attributeAt (attributesIn types attributes) (f .attribute) .result))
       && isWord nodes (attributeAt (attributesIn types attributes) (f .attribute) .parameter-type) (f .parameter)
       && isWord nodes (attributeAt (attributesIn types attributes) (f .attribute) .result) (f .value))
   unfolding tests keyIn
@@ -43,18 +42,18 @@ module _ (s : Sheet) (types : List ℕ) (attributes nodes : ℕ) (a : s .attribu
   pub attribute-fails : attributes ≤ f .attribute → false ≡ isEntry s [] (take 12 (drop (12 * j) store))
   attribute-fails h = sym (tests-are ∙ rw (le-ltb _ _ h, and-false))
 
-  pub zero-fails : (f .fourth ≡ 0 → ⊥) → false ≡ isEntry s [] (take 12 (drop (12 * j) store))
-  zero-fails h = sym (tests-are ∙ rw (ne-eqb _ _ h, and-false))
+  module _ (declared : f .attribute < attributes) {result : ℕ} (result-is : result ≡ resultAt types (f .attribute)) {code : ℕ} (code-is : code ≡ baseCode (baseOf result)) where
+    pub type-fails : (f .code ≡ code → ⊥) → false ≡ isEntry s [] (take 12 (drop (12 * j) store))
+    type-fails h = sym (tests-are ∙ rw (attribute-at types attributes _ declared, ← result-is, ← code-is, ne-eqb _ _ h, and-false))
 
-  module _ (declared : f .attribute < attributes) {parameter : ℕ} (parameter-is : parameter ≡ parameterAt types (f .attribute)) {w : Bool}
-      (word : w ≡ isWord nodes (baseOf parameter) (f .parameter)) where
-    pub parameter-fails : not w ≡ true → false ≡ isEntry s [] (take 12 (drop (12 * j) store))
-    parameter-fails h = sym (tests-are ∙ rw (attribute-at types attributes _ declared, ← parameter-is, ← word, not-true w h, and-false))
+    module _ {parameter : ℕ} (parameter-is : parameter ≡ parameterAt types (f .attribute)) {w : Bool} (word : w ≡ isWord nodes (baseOf parameter) (f .parameter)) where
+      pub parameter-fails : not w ≡ true → false ≡ isEntry s [] (take 12 (drop (12 * j) store))
+      parameter-fails h = sym (tests-are ∙ rw (attribute-at types attributes _ declared, ← parameter-is, ← word, not-true w h, and-false))
 
-    pub by-value : f .node < nodes → f .fourth ≡ 0 → not w ≡ false → {result : ℕ} → result ≡ resultAt types (f .attribute) → {v : Bool}
-        → v ≡ isWord nodes (baseOf result) (f .value) → v ≡ isEntry s [] (take 12 (drop (12 * j) store))
-    by-value h z p result-is v =
-        v ∙ sym (tests-are ∙ rw (attribute-at types attributes _ declared, ← parameter-is, ← result-is, lt-ltb _ _ h, lt-ltb _ _ declared, eq-eqb _ _ z, ← word, not-false w p))
+      pub by-value : f .node < nodes → f .code ≡ code → not w ≡ false → {v : Bool} → v ≡ isWord nodes (baseOf result) (f .value)
+          → v ≡ isEntry s [] (take 12 (drop (12 * j) store))
+      by-value h same p v =
+          v ∙ sym (tests-are ∙ rw (attribute-at types attributes _ declared, ← parameter-is, ← result-is, ← code-is, lt-ltb _ _ h, lt-ltb _ _ declared, eq-eqb _ _ same, ← word, not-false w p))
 
 -- ---- The check
 

@@ -31,12 +31,12 @@ module _ (store : List ℕ) (j : ℕ) where
 
   pub fields-read : (n a z w v : ℕ) → n ≡ ofBytes (take 2 (drop (12 * j) store)) → a ≡ getD store (12 * j + 2) 0 → z ≡ getD store (12 * j + 3) 0
       → w ≡ ofBytes (take 4 (drop (12 * j + 4) store)) → v ≡ ofBytes (take 4 (drop (12 * j + 8) store))
-      → record { node = n; attribute = a; fourth = z; parameter = w; value = v } ≡ fieldsAt store j
+      → record { node = n; attribute = a; code = z; parameter = w; value = v } ≡ fieldsAt store j
   unfolding fieldsAt fieldsOf
   fields-read n a z w v hn ha hz hw hv i = record {
     node = (hn ∙ ap ofBytes (sym (part-taken 0 2 12 (drop (12 * j) store) (omega arith)))) i;
     attribute = (ha ∙ sym (byte-at 2 (omega arith))) i;
-    fourth = (hz ∙ sym (byte-at 3 (omega arith))) i;
+    code = (hz ∙ sym (byte-at 3 (omega arith))) i;
     parameter = (hw ∙ ap ofBytes (sym (part-at 4 4 (omega arith)))) i;
     value = (hv ∙ ap ofBytes (sym (part-at 8 4 (omega arith)))) i;
   }
@@ -54,7 +54,7 @@ module _ (store : List ℕ) (j : ℕ) where
 
   pub keyed-read : (n a z w v : ℕ) → n ≡ ofBytes (take 2 (drop (12 * j) store)) → a ≡ getD store (12 * j + 2) 0 → z ≡ getD store (12 * j + 3) 0
       → w ≡ ofBytes (take 4 (drop (12 * j + 4) store)) → v ≡ ofBytes (take 4 (drop (12 * j + 8) store))
-      → ((i : ℕ) → Fits w8 (getD store i 0)) → Keyed (keyIn record { node = n; attribute = a; fourth = z; parameter = w; value = v })
+      → ((i : ℕ) → Fits w8 (getD store i 0)) → Keyed (keyIn record { node = n; attribute = a; code = z; parameter = w; value = v })
   keyed-read n a z w v hn ha hz hw hv small = rw (fields-read n a z w v hn ha hz hw hv) (keyed-bytes small)
 
 pub keyed-as : {p q : Key} → q ≡ p → Keyed p → Keyed q

@@ -7,15 +7,16 @@ use native.Mathlib.Numerals.{towards-suc}
 use native.Mathlib.Omega.{arith}
 use lib.ListN.{length, take, drop, set, length-append, length-take, length-drop}
 use lib.Seq.{sets, sets-eq, length-take-le, take-at, drop-at, drop-append-le, drop-append-add, drop-drop}
-use Rattle.saiga.specs.Values.{toBytes}
+use Rattle.saiga.specs.Values.{toBytes, toWord, typeCode}
 use Rattle.saiga.specs.Caching.{Entry}
 use Rattle.saiga.specs.declared.Fields.{Fields}
-use Rattle.saiga.specs.Store.{fieldBytes, fieldsOf, fieldsFor, entryBytes, entriesBytes, leftStore}
+use Rattle.saiga.specs.declared.Value.{Value}
+use Rattle.saiga.specs.Store.{fieldBytes, fieldsOf, entryBytes, entriesBytes, leftStore}
 use Rattle.saiga.proofs.FourBytes.{bytes-trip}
-use Rattle.saiga.proofs.Entries.{entry-length, entries-length}
+use Rattle.saiga.proofs.Entries.{entries-length}
 use Rattle.stores.specs.declared.Key.{Key}
 use Rattle.stores.specs.Walks.{Keyed, Free, planted}
-use Rattle.stores.specs.Keys.{fieldsAt, keyIn, keyAt, findKey, recordOf, putAt, Linked, EntryPut}
+use Rattle.stores.specs.Keys.{fieldsAt, keyIn, keyAt, findKey, fieldsFor, putAt, Linked, EntryPut}
 use Rattle.stores.proofs.Parts.{key-same}
 use Rattle.stores.proofs.Searches.{find-none, none-has}
 use Rattle.stores.proofs.Walks.{free-small, linked-same, linked-more}
@@ -26,15 +27,15 @@ fields-length f = refl
 
 module _ (store : List ℕ) (k : ℕ) (fits : 12 * k + 12 ≤ length store) where
   module _ (f : Fields) where
-    put-length : length (putAt store k (fieldBytes f)) ≡ length store
+    pub put-length : length (putAt store k (fieldBytes f)) ≡ length store
     unfolding putAt
     put-length = let twelve = fields-length f in simp (length-append, length-take, length-drop) (omega arith)
 
-    put-before : take (12 * k) store ≡ take (12 * k) (putAt store k (fieldBytes f))
+    pub put-before : take (12 * k) store ≡ take (12 * k) (putAt store k (fieldBytes f))
     unfolding putAt
     put-before = rw append-assoc (sym (take-at (take (12 * k) store) _ (12 * k) (length-take-le (12 * k) store (omega arith))))
 
-    put-there : take 12 (drop (12 * k) (putAt store k (fieldBytes f))) ≡ fieldBytes f
+    pub put-there : take 12 (drop (12 * k) (putAt store k (fieldBytes f))) ≡ fieldBytes f
     unfolding putAt
     put-there =
         let rest = drop (12 * k + 12) store in
@@ -44,7 +45,7 @@ module _ (store : List ℕ) (k : ℕ) (fits : 12 * k + 12 ≤ length store) wher
 
     -- The code writes an entry's parts one after the other.
     module _ {noded parametered valued : List ℕ} (n : noded ≡ sets store (12 * k) (toBytes 2 (f .node)))
-        (p : parametered ≡ sets (set (set noded (12 * k + 2) (f .attribute)) (12 * k + 3) (f .fourth)) (12 * k + 4) (toBytes 4 (f .parameter)))
+        (p : parametered ≡ sets (set (set noded (12 * k + 2) (f .attribute)) (12 * k + 3) (f .code)) (12 * k + 4) (toBytes 4 (f .parameter)))
         (v : valued ≡ sets parametered (12 * k + 8) (toBytes 4 (f .value))) where
       pub written : valued ≡ putAt store k (fieldBytes f)
       unfolding putAt fieldBytes toBytes
@@ -59,38 +60,43 @@ module _ (store : List ℕ) (k : ℕ) (fits : 12 * k + 12 ≤ length store) wher
 
 -- ---- An entry is written, and put into the index
 
-module _ (store : List ℕ) (k : ℕ) (few : k < 1024) (fits : 12 * k + 12 ≤ length store) (index : List ℕ) (l : Linked store k index) (q : Key) (keyed : Keyed q)
-    (new : findKey store k q ≡ none) (cell : ℕ) (free : Free index q cell) where
+-- an attribute is one byte
+pub attribute-byte : (f : Fields) → Keyed (keyIn f) → f .attribute < 256
+unfolding keyIn
+attribute-byte f keyed = keyed .attribute
+
+module _ (store : List ℕ) (k : ℕ) (few : k < 1024) (fits : 12 * k + 12 ≤ length store) (index : List ℕ) (l : Linked store k index) (f : Fields)
+    (keyed : Keyed (keyIn f)) (new : findKey store k (keyIn f) ≡ none) (cell : ℕ) (free : Free index (keyIn f) cell) where
   pub planted-cell : cell < 9216
-  planted-cell = free-small store k index l few q cell free
+  planted-cell = free-small store k index l few (keyIn f) cell free
 
-  module _ (value : ℕ) where
-    abbrev fields : Fields
-    fields = fieldsFor (q .node) (q .attribute) (q .word) value
+  abbrev put : List ℕ
+  put = putAt store k (fieldBytes f)
 
-    abbrev put : List ℕ
-    put = putAt store k (fieldBytes fields)
+  -- The entry that was written has the key.
+  key-trips : keyIn (fieldsOf (fieldBytes f)) ≡ keyIn f
+  unfolding keyIn fieldsOf fieldBytes toBytes
+  key-trips i = record { node = bytes-trip 2 (f .node) (keyed .node) i; attribute = f .attribute; word = bytes-trip 4 (f .parameter) (keyed .word) i }
 
-    -- The entry that was written has the key.
-    record-trips : keyIn (fieldsOf (fieldBytes fields)) ≡ q
-    unfolding keyIn fieldsOf fieldBytes fieldsFor toBytes
-    record-trips i = record { node = bytes-trip 2 (q .node) (keyed .node) i; attribute = q .attribute; word = bytes-trip 4 (q .word) (keyed .word) i }
+  key-put : keyAt put k ≡ keyIn f
+  unfolding fieldsAt
+  key-put = rw (put-there store k fits f) key-trips
 
-    key-put : keyAt put k ≡ q
-    unfolding fieldsAt
-    key-put = rw (put-there store k fits fields) record-trips
+  new-put : findKey put k (keyIn f) ≡ none
+  new-put = find-none put k (keyIn f) (λ j h has. none-has store k (keyIn f) new j h (key-same store put k j (put-before store k fits f) h ∙ has))
 
-    new-put : findKey put k q ≡ none
-    new-put = find-none put k q (λ j h has. none-has store k q new j h (key-same store put k j (put-before store k fits fields) h ∙ has))
+  pub entry-put : {put′ index′ : List ℕ} → put′ ≡ put → index′ ≡ planted index cell k → EntryPut store k f put′ index′
+  entry-put written linked =
+      record {
+        bytes = written;
+        linked = rw (written, linked) (linked-more put k index (linked-put store k fits f index l) few (keyIn f) key-put keyed new-put cell free (rw (put-length store k fits f) fits));
+      }
 
-    pub entry-put : {put′ index′ : List ℕ} → put′ ≡ putAt store k (fieldBytes record { node = q .node; attribute = q .attribute; fourth = 0; parameter = q .word; value = value }) → index′ ≡ planted index cell k
-        → EntryPut store k q value put′ index′
-    unfolding recordOf fieldsFor
-    entry-put written linked =
-        record {
-          bytes = written;
-          linked = rw (written, linked) (linked-more put k index (linked-put store k fits fields index l) few q key-put keyed new-put cell free (rw (put-length store k fits fields) fits));
-        }
+-- the numbers of the entry that keeps a value for a key
+pub fields-are : (q : Key) (v : Value) {code word : ℕ} → code ≡ typeCode v → word ≡ toWord v
+    → record { node = q .node; attribute = q .attribute; code = code; parameter = q .word; value = word } ≡ fieldsFor q v
+unfolding fieldsFor
+fields-are q v code word i = record { node = q .node; attribute = q .attribute; code = code i; parameter = q .word; value = word i }
 
 -- ---- The store that a call leaves
 

@@ -7,14 +7,14 @@ use Prim.Native.Nat.{ℕ, zero, suc, _+_, _*_, _<_, _≤_}
 use lib.Dec.{eqb}
 use lib.ListN.{length, take, drop, getD}
 use Rattle.saiga.specs.Limits.{entryWidth, entryLimit}
-use Rattle.saiga.specs.Values.{Base, ofWord, toWord}
+use Rattle.saiga.specs.Values.{Base, ofWord, toWord, typeCode}
 use Rattle.saiga.specs.declared.Value.{Value}
 use Rattle.saiga.specs.Sheet.{Sheet, nodeCount, Checked, refused_at-place_, accepted}
 use Rattle.values.specs.Layout.{attributesIn}
 use Rattle.saiga.specs.Terms.{Occurrence}
 use Rattle.saiga.specs.Caching.{Entry}
 use Rattle.saiga.specs.declared.Fields.{Fields}
-use Rattle.saiga.specs.Store.{fieldBytes, fieldsOf, fieldsFor, entryOf, isEntry, readEntries, checkStore}
+use Rattle.saiga.specs.Store.{fieldBytes, fieldsOf, entryOf, isEntry, readEntries, checkStore}
 use Rattle.stores.specs.declared.Key.{Key}
 use Rattle.stores.specs.Walks.{bucketCount, fanOut, firstCell, cellOf, Keyed, bucketOf, trailOf, digitAt, Agree, walk, Passes, Free}
 use Rattle.stores.specs.declared.Found.{Found}
@@ -83,10 +83,11 @@ unfoldable pub keptAt : Base → List ℕ → Option ℕ → Option Value
 keptAt B store none = none
 keptAt B store (some j) = some (ofWord B (valueWord store j))
 
--- An entry in bytes, and a store with these bytes for entry k.
-unfoldable pub recordOf : Key → ℕ → List ℕ
-recordOf q value = fieldBytes (fieldsFor (q .node) (q .attribute) (q .word) value)
+-- the numbers of the entry that keeps a value for a key
+unfoldable pub fieldsFor : Key → Value → Fields
+fieldsFor q v = record { node = q .node; attribute = q .attribute; code = typeCode v; parameter = q .word; value = toWord v }
 
+-- a store with these bytes for entry k
 unfoldable pub putAt : List ℕ → ℕ → List ℕ → List ℕ
 putAt store k bytes = take (entryWidth * k) store ++ bytes ++ drop (entryWidth * k + entryWidth) store
 
@@ -150,7 +151,7 @@ pub record StoreChecked (types : List ℕ) (attributes nodes : ℕ) (store : Lis
 
 -- ---- An entry more
 
--- What writing an entry with this key and value leaves of a store and an index over its kept entries.
-pub record EntryPut (store : List ℕ) (kept : ℕ) (q : Key) (value : ℕ) (store′ index′ : List ℕ) : Type 0 where
-  pub bytes : store′ ≡ putAt store kept (recordOf q value)
+-- What writing an entry of these numbers leaves of a store and an index over its kept entries.
+pub record EntryPut (store : List ℕ) (kept : ℕ) (f : Fields) (store′ index′ : List ℕ) : Type 0 where
+  pub bytes : store′ ≡ putAt store kept (fieldBytes f)
   pub linked : Linked store′ (kept + 1) index′

@@ -1,12 +1,13 @@
 // The store: its checks, and an index over the kept entries, by which an occurrence is found (document 01, "The steps", stops 9 and 10).
 use saiga::Fields;
+use saiga::Value;
 use saiga::limits::ENTRY_LIMIT;
 use saiga::limits::ENTRY_WIDTH;
 use saiga::limits::STORE_LIMIT;
 ghost use mathlib.Core.List.{[]};
 ghost use mathlib.Core.Option.{none};
 ghost use mathlib.Core.Path.{_≡_};
-ghost use Prim.Native.Nat.{ℕ, _+_, _*_, _%_, _≤_, _<_};
+ghost use Prim.Native.Nat.{_+_, _*_, _%_, _≤_, _<_};
 ghost use lib.ListN.{length, take, drop, getD};
 ghost use Rattle.values.specs.Layout.{attributesIn};
 ghost use Rattle.saiga.specs.Limits.{entryWidth, entryLimit};
@@ -14,7 +15,7 @@ ghost use Rattle.saiga.specs.Sheet.{Sheet, nodeCount};
 ghost use Rattle.saiga.specs.Store.{fieldBytes, isEntry};
 ghost use Rattle.stores.specs.Walks.{bucketCount, fanOut, firstCell, cellOf, bucketOf, trailOf, Keyed, Free, planted};
 ghost use Rattle.stores.specs.declared.Seen.the-variants.{Other};
-ghost use Rattle.stores.specs.Keys.{linksSize, sameKey, fieldsAt, keyIn, keyAt, findKey, seenIn, foundOf, FreeIn, valueWord, putAt, Linked, EntryTested, StoreChecked, EntryPut};
+ghost use Rattle.stores.specs.Keys.{linksSize, sameKey, fieldsAt, keyIn, keyAt, findKey, seenIn, foundOf, FreeIn, valueWord, fieldsFor, putAt, Linked, EntryTested, StoreChecked, EntryPut};
 
 // An occurrence in numbers: its node, its attribute, and its parameter's four-byte form.
 pub struct Key {
@@ -82,7 +83,7 @@ fn entry_at(store: &[u8], i: usize) -> Fields
     Fields {
         node: values::two(store, at),
         attribute: values::wide(store[at + 2]),
-        fourth: values::wide(store[at + 3]),
+        code: store[at + 3],
         parameter: values::four(store, at + 4),
         value: values::four(store, at + 8),
     }
@@ -90,13 +91,13 @@ fn entry_at(store: &[u8], i: usize) -> Fields
 
 // The numbers of entry i are written.
 fn put_entry(store: &mut [u8], i: usize, e: Fields)
-    requires { ⌜ (entryWidth * i + entryWidth ≤ length (now store)) × (e .attribute < 256) × (e .fourth < 256) ⌝ }
+    requires { ⌜ (entryWidth * i + entryWidth ≤ length (now store)) × (e .attribute < 256) ⌝ }
     ensures { λ _. ⌜ now (store .exit) ≡ putAt (now (store .entry)) i (fieldBytes e) ⌝ }
 {
     let at = ENTRY_WIDTH * i;
     values::put_two(store, at, e.node);
     store[at + 2] = e.attribute as u8;
-    store[at + 3] = e.fourth as u8;
+    store[at + 3] = e.code;
     values::put_four(store, at + 4, e.parameter);
     values::put_four(store, at + 8, e.value);
 }
@@ -232,8 +233,8 @@ fn plant(index: &mut [u16], cell: usize, kept: usize)
     index[cell] = (kept + 1) as u16;
 }
 
-// Whether entry i is one of the sheet's, leaving aside whether its occurrence was kept before: declared node and attribute, a zero byte,
-// and a parameter and a value of their types.
+// Whether entry i is one of the sheet's, leaving aside whether its occurrence was kept before: declared node and attribute, the code of the
+// attribute's result type, and a parameter and a value of their types.
 fn is_entry(types: &[u8], attributes: usize, nodes: usize, store: &[u8], i: usize) -> bool
     requires { ⌜ (3 * attributes ≤ length (now types)) × (entryWidth * i + entryWidth ≤ length (now store)) ⌝ }
     ensures { λ r. ⌜ ((s : Sheet) → s .attributes ≡ attributesIn (now (types .entry)) attributes → nodeCount s ≡ nodes
@@ -247,13 +248,16 @@ fn is_entry(types: &[u8], attributes: usize, nodes: usize, store: &[u8], i: usiz
     if attributes <= a {
         return false;
     }
-    if e.fourth != 0 {
+    let result = values::result_at(types, a);
+    let parameter = values::parameter_at(types, a);
+    let code = values::base_code(result);
+    if e.code != code {
         return false;
     }
-    if !values::is_word(nodes, values::parameter_at(types, a), e.parameter) {
+    if !values::is_word(nodes, parameter, e.parameter) {
         return false;
     }
-    values::is_word(nodes, values::result_at(types, a), e.value)
+    values::is_word(nodes, result, e.value)
 }
 
 // The test of entry i, the ones before it being in the index.
@@ -318,19 +322,25 @@ pub fn value_word(store: &[u8], i: usize) -> u32
     entry_at(store, i).value
 }
 
-// Entry `kept` is written, and put into the index at the free cell of its key.
-pub fn append(store: &mut [u8], kept: usize, index: &mut [u16], key: Key, value: u32, cell: usize)
-    requires { ⌜ (kept < entryLimit) × (entryWidth * kept + entryWidth ≤ length (now store)) × Linked (now store) kept (now index) ⌝ }
-    requires { ⌜ Keyed key × (findKey (now store) kept key ≡ none) × Free (now index) key cell ⌝ }
-    ensures { λ _. ⌜ EntryPut (now (store .entry)) kept key value (now (store .exit)) (now (index .exit)) ⌝ }
+// The numbers of the entry that keeps a value for a key.
+pub fn fields_for(key: Key, value: Value) -> Fields
+    ensures { λ r. ⌜ r ≡ fieldsFor key value ⌝ }
 {
-    let e = Fields {
+    Fields {
         node: key.node,
         attribute: key.attribute,
-        fourth: 0,
+        code: values::type_code(value),
         parameter: key.word,
-        value,
-    };
+        value: values::word_of(value),
+    }
+}
+
+// Entry `kept` is written, and put into the index at the free cell of its key.
+pub fn append(store: &mut [u8], kept: usize, index: &mut [u16], e: Fields, cell: usize)
+    requires { ⌜ (kept < entryLimit) × (entryWidth * kept + entryWidth ≤ length (now store)) × Linked (now store) kept (now index) ⌝ }
+    requires { ⌜ Keyed (keyIn e) × (findKey (now store) kept (keyIn e) ≡ none) × Free (now index) (keyIn e) cell ⌝ }
+    ensures { λ _. ⌜ EntryPut (now (store .entry)) kept e (now (store .exit)) (now (index .exit)) ⌝ }
+{
     put_entry(store, kept, e);
     plant(index, cell, kept);
 }

@@ -14,7 +14,7 @@ ghost use lib.Seq.{sets};
 ghost use Rattle.values.specs.Cells.{emptied};
 ghost use Rattle.values.specs.Layout.{resultAt, parameterAt, kindAt};
 ghost use Rattle.saiga.specs.Limits.{nodeLimit};
-ghost use Rattle.saiga.specs.Values.{baseOf, functionOf, held as heldOf, truth as truthOf, number as numberOf, nodeOf, applyFunction, applyHolding, apply as applied, ofBytes, toBytes, signed as signedOf, unsigned as unsignedOf, isWord, ofWord, toWord, typeCode, decimal as decimalOf};
+ghost use Rattle.saiga.specs.Values.{baseCode, baseOf, functionOf, held as heldOf, truth as truthOf, number as numberOf, nodeOf, applyFunction, applyHolding, apply as applied, ofBytes, toBytes, signed as signedOf, unsigned as unsignedOf, isWord, ofWord, toWord, typeCode, decimal as decimalOf};
 
 // Null in its four-byte form.
 const NULL_WORD: u32 = NULL as u32;
@@ -248,6 +248,18 @@ pub fn kind_at(sheet: &[u8], attributes: usize, n: usize) -> u8
     sheet[3 * attributes + 2 * n + 1]
 }
 
+// The code of the base type that a byte names. A byte above 3, which no accepted sheet has for a type, is read as 3.
+pub fn base_code(byte: u8) -> u8
+    ensures { λ r. ⌜ r ≡ baseCode (baseOf byte) ⌝ }
+{
+    match byte {
+        0 => 0,
+        1 => 1,
+        2 => 2,
+        _ => 3,
+    }
+}
+
 // Whether a number is the four-byte form of a value of the type with this code.
 pub fn is_word(nodes: usize, code: u8, w: u32) -> bool
     ensures { λ r. ⌜ r ≡ isWord nodes (baseOf code) w ⌝ }
@@ -287,7 +299,7 @@ pub fn word_of(v: Value) -> u32
     }
 }
 
-// The code of an answer's type, and its value as a number; 4 and 0 of a function, which no answer brings.
+// The code of a value's type, and the value as a number; 4 and 0 of a function, which no answer brings and no entry keeps.
 pub fn type_code(v: Value) -> u8
     ensures { λ r. ⌜ r ≡ typeCode v ⌝ }
 {

@@ -4,7 +4,7 @@
 use trials::collide::{of_one_bucket, Key, ATTRIBUTES, LONGEST_PATH};
 use trials::write::*;
 
-use crate::inputs::{empty, hops, BOOL_TYPE, INT_TYPE, NODE_TYPE, UNIT_TYPE};
+use crate::inputs::{empty, hops};
 use crate::programs::Input;
 
 /// How many attributes one inside the other a rule has room for.
@@ -60,7 +60,7 @@ fn look_ups(keys: &[Key], sought: u32) -> Input {
         nests(ATTRIBUTES + 1, LAST),
         end(),
     ];
-    let stored = |key: &Key| entry(key.node, key.attribute, key.word as i32, sought);
+    let stored = |key: &Key| entry(key.node, key.attribute, INT_TYPE, key.word as i32, sought);
     Input {
         sheet: sheet.concat(),
         question: million(LAST, int(sought)),
@@ -202,7 +202,7 @@ pub fn most_pairs() -> Input {
 
 /// The hops along the ring that keep nothing, in a store that is full of what is not asked: 917,501 steps, each of which misses.
 pub fn full_store() -> Input {
-    let entries = (0..1_021).flat_map(|number| entry(number, 19, 0, 0));
+    let entries = (0..1_021).flat_map(|number| entry(number, 19, NODE_TYPE, 0, 0));
     Input {
         store: entries.collect(),
         kept: 1_021,
@@ -257,7 +257,7 @@ mod tests {
     fn what_is_missed_in_one_bucket_lies_behind_the_longest_path() {
         let (sought, _) = path();
         let mut input = one_bucket_missed();
-        input.store.extend(entry(0, 0, sought as i32, 0));
+        input.store.extend(entry(0, 0, INT_TYPE, sought as i32, 0));
         input.kept += 1;
         assert_eq!(depths_in_one_bucket(&input).last(), Some(&LONGEST_PATH));
     }

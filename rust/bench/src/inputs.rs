@@ -5,12 +5,6 @@ use trials::write::*;
 
 use crate::programs::Input;
 
-/// Codes of types.
-pub const UNIT_TYPE: u8 = 0;
-pub const BOOL_TYPE: u8 = 1;
-pub const INT_TYPE: u8 = 2;
-pub const NODE_TYPE: u8 = 3;
-
 /// Null as a figure.
 const NULL_FIGURE: i32 = 65_535;
 
@@ -219,7 +213,7 @@ pub fn sized(size: usize) -> Input {
         sheet,
         question: of(&node_literal(nodes - 1), 0, &UNIT),
         store: (0..nodes)
-            .flat_map(|number| entry(number, 0, 0, value(number, 0)))
+            .flat_map(|number| entry(number, 0, INT_TYPE, 0, value(number, 0)))
             .collect(),
         kept: nodes.into(),
         ..Input::default()

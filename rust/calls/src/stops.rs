@@ -24,7 +24,7 @@ pub enum Stop {
     NoDefinition = 8,
     /// The store's length is no capacity, or more is kept than it has room for.
     StoreShape = 9,
-    /// A kept entry is none of this sheet's, or repeats an occurrence.
+    /// A kept entry is none of this sheet's, its type not the attribute's, or repeats an occurrence.
     StoreEntry = 10,
     /// The budget is above 1,000,000.
     Budget = 11,

@@ -5,6 +5,7 @@
 use sofretu::{Refusal, Scratch, Session, Sheet, Store, MOST_STEPS};
 use trials::compare::{compare_check, Counts};
 use trials::engine::ask_each;
+use trials::write::{entry, INT_TYPE};
 use trials::{Answer, Ask, Call, Case, Engine};
 
 /// The library's ways to put a question, each an engine.
@@ -122,7 +123,7 @@ fn filling() -> Case {
         for attribute in 0..WITH_FIGURES {
             sheet.extend([0x56, low, high, attribute, 1, 0, 0, 0]);
         }
-        store.extend([low, high, 0, 0, 0, 0, 0, 0, 1, 0, 0, 0]);
+        store.extend(entry(node, 0, INT_TYPE, 0, 1));
     }
     for kind in 0..16 {
         for attribute in WITH_FIGURES..ATTRIBUTES {

@@ -6,7 +6,7 @@ use std::ops::Range;
 use sofretu::ENTRY;
 use sofretu_sys::{check_sheet, check_store, CheckedSheet, CheckedStore, Place};
 use trials::collide::{depths, Key, LONGEST_PATH};
-use trials::write::{attribute, end, entry, node, rule, PARAMETER};
+use trials::write::{attribute, end, entry, node, rule, INT_TYPE, PARAMETER};
 use trials::{generate, Case, Oracle};
 
 /// Where the library has the kept entries of a store, if it accepts the store.
@@ -100,7 +100,7 @@ fn the_buckets_are_the_same_to_the_last_bit() {
     for first in (0..1 << 22).step_by(1_024) {
         let parameters = first..first + 1_024;
         let store: Vec<u8> = parameters
-            .flat_map(|parameter| entry(0, 1, parameter, 0))
+            .flat_map(|parameter| entry(0, 1, INT_TYPE, parameter, 0))
             .collect();
         let places = places(&sheet, &store, 1_024).expect("a store of the sheet");
         assert_eq!(places, expected(&store, 1_024));

@@ -8,6 +8,8 @@ mod ints;
 mod sheet_l;
 #[path = "../../trials/tests/document01/stops.rs"]
 mod stops;
+#[path = "../../trials/tests/document01/types.rs"]
+mod types;
 
 use trials::{Answer, Call};
 

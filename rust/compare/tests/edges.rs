@@ -1,7 +1,7 @@
 //! The proved calls at the edges of their input, against the second evaluator.
 
 use compare::Ways;
-use trials::write::{d, sheet_l};
+use trials::write::{d, entry, sheet_l, NODE_TYPE, UP};
 use trials::{Ask, Case, Oracle};
 
 /// The stop from 1 to 13 that both say of a call, or none. All else of their answers, and the store, must be the same too.
@@ -165,6 +165,9 @@ fn questions_and_stores_at_their_limits() {
             verdict(&sheet, &d(), &vec![0; length], kept, 0);
         }
     }
-    // A full store of one entry again and again: the second is a duplicate.
-    assert_eq!(verdict(&sheet, &d(), &[0; 12_288], 1024, 0), Some((10, 1)));
+    // A full store of one entry again and again: the second is a duplicate. Without its type, the first is refused.
+    let full = entry(0, UP, NODE_TYPE, 0, 0).repeat(1_024);
+    assert_eq!(verdict(&sheet, &d(), &full, 1, 0), None);
+    assert_eq!(verdict(&sheet, &d(), &full, 1024, 0), Some((10, 1)));
+    assert_eq!(verdict(&sheet, &d(), &[0; 12_288], 1024, 0), Some((10, 0)));
 }

@@ -1,4 +1,4 @@
-//! Document 01, "The steps", where it speaks of the store, and stops 9 and 10 of "Stops by origin".
+//! Document 01, "The steps", where it speaks of the store, and stops 9 and 10 of "Stops by origin"; document 02, F-6.
 
 use std::collections::hash_map::{Entry, HashMap};
 use std::hash::{Hash, Hasher};
@@ -6,7 +6,7 @@ use std::hash::{Hash, Hasher};
 use crate::expr::take;
 use crate::sheet::Sheet;
 use crate::stop::{Reason, Stop};
-use crate::values::Value;
+use crate::values::{Base, Value};
 
 /// "Entries of 12 bytes".
 pub const ENTRY: usize = 12;
@@ -21,19 +21,12 @@ pub struct Occurrence {
     pub parameter: Value,
 }
 
-impl Occurrence {
-    /// The first eight bytes of its entry.
-    fn to_bytes(self) -> [u8; 8] {
-        let [n0, n1] = self.node.to_le_bytes();
-        let [v0, v1, v2, v3] = self.parameter.to_bytes();
-        [n0, n1, self.attribute, 0, v0, v1, v2, v3]
-    }
-}
-
 impl Hash for Occurrence {
     /// The hasher takes one number faster than the fields one by one.
     fn hash<H: Hasher>(&self, state: &mut H) {
-        state.write_u64(u64::from_le_bytes(self.to_bytes()));
+        let parameter = u32::from_le_bytes(self.parameter.to_bytes());
+        let pair = u64::from(self.node) << 8 | u64::from(self.attribute);
+        state.write_u64(pair << 32 | u64::from(parameter));
     }
 }
 
@@ -81,9 +74,7 @@ impl<'s> Store<'s> {
         match self.kept.entry(occurrence) {
             Entry::Occupied(kept) => *kept.get(),
             Entry::Vacant(free) => {
-                let entry = &mut self.bytes[at..at + ENTRY];
-                entry[..8].copy_from_slice(&occurrence.to_bytes());
-                entry[8..].copy_from_slice(&value.to_bytes());
+                self.bytes[at..at + ENTRY].copy_from_slice(&entry(occurrence, value));
                 *free.insert(value)
             }
         }
@@ -118,19 +109,33 @@ pub fn well_shaped(store: &[u8]) -> bool {
     store.len().is_multiple_of(ENTRY) && store.len() <= ENTRY * MOST_ENTRIES
 }
 
-/// The occurrence and the value of a kept entry: "node (2), attribute (1), a zero byte, parameter (4), value (4)". Stop 10 holds of one
-/// "with undeclared node or attribute, nonzero fourth byte, bytes that are no value of the type".
+/// The bytes of an entry: "node (2), attribute (1), a zero byte, parameter (4), value (4)", where "the fourth byte of an entry, zero until
+/// now, carries the type code of the entry's value" (document 02, F-6).
+pub fn entry(occurrence: Occurrence, value: Value) -> [u8; ENTRY] {
+    let [n0, n1] = occurrence.node.to_le_bytes();
+    let code = value.base().expect("no function is kept").code();
+    let [p0, p1, p2, p3] = occurrence.parameter.to_bytes();
+    let [v0, v1, v2, v3] = value.to_bytes();
+    let attribute = occurrence.attribute;
+    [n0, n1, attribute, code, p0, p1, p2, p3, v0, v1, v2, v3]
+}
+
+/// The occurrence and the value of a kept entry. Stop 10 holds of one "with undeclared node or attribute, ..., bytes that are no value of
+/// the type", and "where it is not the attribute's result type" of the type code.
 fn read_entry(entry: &[u8], sheet: &Sheet) -> Option<(Occurrence, Value)> {
     let (node, rest) = take::<2>(entry)?;
-    let ([attribute, zero], rest) = take::<2>(rest)?;
+    let ([attribute, code], rest) = take::<2>(rest)?;
     let (parameter, rest) = take::<4>(rest)?;
     let (value, _) = take::<4>(rest)?;
     let nodes = sheet.node_count();
     let node = u16::from_le_bytes(node);
-    if usize::from(node) >= nodes || zero != 0 {
+    if usize::from(node) >= nodes {
         return None;
     }
     let declared = sheet.declared(attribute)?;
+    if Base::from_code(code) != Some(declared.result) {
+        return None;
+    }
     let parameter = Value::from_bytes(declared.parameter, parameter, nodes)?;
     let value = Value::from_bytes(declared.result, value, nodes)?;
     let occurrence = Occurrence {

@@ -4,9 +4,14 @@ use std::collections::HashSet;
 
 use crate::{check_store, CheckedSheet, CheckedStore, SHEET};
 
-/// Whether four bytes are a value of the type with this code, where so many nodes are declared.
-fn is_word(code: u8, nodes: u64, word: u32) -> bool {
-    match code {
+/// The code of the type that a byte of the sheet is read as.
+fn code(byte: u8) -> u8 {
+    byte.min(3)
+}
+
+/// Whether four bytes are a value of the type that this byte is read as, where so many nodes are declared.
+fn is_word(byte: u8, nodes: u64, word: u32) -> bool {
+    match code(byte) {
         0 => word == 0,
         1 => word < 2,
         2 => true,
@@ -27,7 +32,7 @@ fn said(sheet: &[u8], attributes: u64, nodes: u64, store: &[u8], kept: u64) -> (
         let word = |from: usize| u32::from_le_bytes(entry[from..from + 4].try_into().unwrap());
         let good = u64::from(node) < nodes
             && u64::from(entry[2]) < attributes
-            && entry[3] == 0
+            && entry[3] == code(sheet[at + 1])
             && is_word(sheet[at + 2], nodes, word(4))
             && is_word(sheet[at + 1], nodes, word(8))
             && before.insert((node, entry[2], word(4)));
@@ -65,7 +70,13 @@ fn any_numbers_are_answered_as_the_header_says() {
         let mut store = Vec::new();
         for _ in 0..entries {
             let value = [numbers.below(3) as u8, 0, 0, 0];
-            store.extend([numbers.below(2) as u8, 0, numbers.below(3) as u8, 0]);
+            let attribute = numbers.below(3) as u8;
+            let right = sheet.get(3 * usize::from(attribute) + 1).copied();
+            let typ = match numbers.below(8) {
+                0 => numbers.below(6) as u8,
+                _ => code(right.unwrap_or(0)),
+            };
+            store.extend([numbers.below(2) as u8, 0, attribute, typ]);
             store.extend([numbers.below(2) as u8, 0, 0, 0]);
             store.extend(if numbers.below(8) == 0 {
                 [255, 255, 0, 0]

@@ -35,6 +35,15 @@ impl Value {
         }
     }
 
+    /// The value of the type with this code that has this four-byte form.
+    pub(crate) fn from_word(code: u8, word: u32) -> Option<Value> {
+        let number = match code {
+            2 => i64::from(word as i32),
+            _ => i64::from(word),
+        };
+        Value::from_fields(code.into(), number)
+    }
+
     /// The code of its type, and its number.
     fn fields(self) -> (i64, i64) {
         match self {

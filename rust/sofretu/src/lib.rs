@@ -7,7 +7,7 @@
 //! Check a [`Sheet`] once, open a [`Session`] on it with a [`Store`], and [`ask`](Session::ask):
 //!
 //! ```
-//! use sofretu::{Answer, Refusal, Session, Sheet, Stop, Store, Value};
+//! use sofretu::{Answer, Entry, Refusal, Session, Sheet, Stop, Store, Value};
 //!
 //! // Sheet L of document 01: attributes up, own and dial, and nodes 0 (a building), 1 and 2 (its cars). A car with no number
 //! // of its own takes its building's.
@@ -48,6 +48,10 @@
 //! assert_eq!(refused, Answer::Refusal { stop: Stop::Null, place: 0, steps: 1, kept: 8 });
 //! assert_eq!(refused.value().unwrap_err().to_string(), "stop 14: an attribute of null was due");
 //!
+//! // The store tells what it keeps, in the order in which it was kept.
+//! let last = store.entries().last().expect("eight are kept")?;
+//! assert_eq!(last, Entry { node: 0, attribute: 0, parameter: 0, value: Value::Node(None) });
+//!
 //! // The store can be put away, with its number kept, and lent again.
 //! let (bytes, kept) = store.into_parts();
 //! assert_eq!((bytes.len(), kept), (12_288, 8));
@@ -69,7 +73,7 @@ pub use answer::{Answer, Value};
 #[doc(inline)]
 pub use calls::{Call, Origin, Refusal, Stop};
 pub use library::{ask, ask_cleared, check, Scratch, Session, Sheet};
-pub use store::{Store, ENTRY, MOST_ENTRIES};
+pub use store::{Entry, Store, ENTRY, MOST_ENTRIES};
 
 /// The greatest budget permitted.
 pub const MOST_STEPS: u64 = 1_000_000;

@@ -1,7 +1,7 @@
 //! The safe interface at work: what a session keeps, what is refused where, and that the three ways of asking agree.
 
 use sofretu::{
-    ask, check, Answer, Call, Origin, Refusal, Scratch, Session, Sheet, Stop, Store, Value,
+    ask, check, Answer, Call, Entry, Origin, Refusal, Scratch, Session, Sheet, Stop, Store, Value,
     MOST_STEPS,
 };
 
@@ -83,8 +83,83 @@ fn stores_that_do_not_fit_the_sheet_open_no_session() {
     assert_eq!(refusal(Store::from_parts(vec![0; 13], 0)), shape);
     assert_eq!(refusal(Store::from_parts(vec![0; 12], 2)), shape);
     assert_eq!(refusal(Store::from_parts(vec![0; 12], u64::MAX)), shape);
-    let twice = Store::from_parts(vec![0; 24], 2);
+    let entry = [0, 0, 0, 2, 0, 0, 0, 0, 0, 0, 0, 0];
+    let twice = Store::from_parts(entry.repeat(2), 2);
     assert_eq!(refusal(twice), (Stop::StoreEntry, 1));
+    let untyped = Store::from_parts(vec![0; 12], 1);
+    assert_eq!(refusal(untyped), (Stop::StoreEntry, 0));
+}
+
+#[test]
+fn a_store_is_read_without_its_sheet() {
+    let sheet = Sheet::check(&ONE_MORE).expect("an accepted sheet");
+    let mut store = Store::with_capacity(3);
+    let mut session = Session::open(&sheet, &mut store).expect("an empty store");
+    for parameter in [4, -1] {
+        session.ask(&after(parameter), 9).value().expect("a value");
+    }
+    let entry = |parameter: i32| Entry {
+        node: 0,
+        attribute: 0,
+        parameter: parameter as u32,
+        value: Value::Int(parameter + 1),
+    };
+    assert!(store.entries().eq([Ok(entry(4)), Ok(entry(-1))]));
+    assert_eq!(Store::with_capacity(1_024).entries().count(), 0);
+}
+
+#[test]
+fn entries_have_values_of_every_type_or_are_refused() {
+    let entry = |code: u8, value: u32| {
+        let mut bytes = vec![1, 2, 3, code, 4, 5, 6, 7];
+        bytes.extend(value.to_le_bytes());
+        bytes
+    };
+    let good = [
+        (0, 0, Value::Unit),
+        (1, 0, Value::Bool(false)),
+        (1, 1, Value::Bool(true)),
+        (2, 700, Value::Int(700)),
+        (2, i32::MIN as u32, Value::Int(i32::MIN)),
+        (2, u32::MAX, Value::Int(-1)),
+        (3, 1_023, Value::Node(Some(1_023))),
+        (3, 65_535, Value::Node(None)),
+    ];
+    let bad = [(0, 1), (1, 2), (3, 65_536), (4, 0), (255, 0)];
+    let bytes = good.map(|(code, value, _)| entry(code, value)).concat();
+    let read = good.map(|(.., value)| {
+        Ok(Entry {
+            node: 0x0201,
+            attribute: 3,
+            parameter: 0x0706_0504,
+            value,
+        })
+    });
+    let store = Store::from_parts(bytes.clone(), good.len() as u64);
+    assert!(store.entries().eq(read));
+    // A bad entry is refused with its number, and the one after it is read.
+    for (code, value) in bad {
+        let bytes = [&bytes[..12], &entry(code, value), &bytes[12..24]].concat();
+        let store = Store::from_parts(bytes, 3);
+        let refusal = Refusal {
+            stop: Stop::StoreEntry,
+            place: 1,
+        };
+        assert!(store.entries().eq([read[0], Err(refusal), read[1]]));
+    }
+}
+
+#[test]
+fn the_entries_of_a_store_of_the_wrong_shape_are_one_refusal() {
+    let shape = Err(Stop::StoreShape.into());
+    for store in [
+        Store::with_capacity(1_025),
+        Store::from_parts(vec![0; 13], 1),
+        Store::from_parts(vec![0; 12], 2),
+        Store::from_parts(vec![0; 12], u64::MAX),
+    ] {
+        assert!(store.entries().eq([shape]));
+    }
 }
 
 #[test]

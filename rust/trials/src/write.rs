@@ -1,5 +1,11 @@
 //! The bytes of commands, expressions and entries, and sheet L.
 
+/// Type codes.
+pub const UNIT_TYPE: u8 = 0;
+pub const BOOL_TYPE: u8 = 1;
+pub const INT_TYPE: u8 = 2;
+pub const NODE_TYPE: u8 = 3;
+
 pub fn attribute(result: u8, parameter: u8) -> Vec<u8> {
     vec![0x41, result, parameter]
 }
@@ -79,10 +85,10 @@ pub fn of(node: &[u8], attribute: u8, parameter: &[u8]) -> Vec<u8> {
     [&[0x22, attribute], node, parameter].concat()
 }
 
-/// An entry of a store.
-pub fn entry(node: u16, attribute: u8, parameter: i32, value: i32) -> Vec<u8> {
+/// An entry of a store, with the type code of its value.
+pub fn entry(node: u16, attribute: u8, code: u8, parameter: i32, value: i32) -> Vec<u8> {
     let mut bytes = node.to_le_bytes().to_vec();
-    bytes.extend([attribute, 0]);
+    bytes.extend([attribute, code]);
     bytes.extend(parameter.to_le_bytes());
     bytes.extend(value.to_le_bytes());
     bytes
@@ -99,9 +105,9 @@ pub fn sheet_l() -> Vec<u8> {
     let inherited = of(&of(&THIS, UP, &UNIT), DIAL, &UNIT);
     let dial = if_else(&binary(EQUAL, &own, &int(0)), &inherited, &own);
     [
-        attribute(3, 0),
-        attribute(2, 0),
-        attribute(2, 0),
+        attribute(NODE_TYPE, UNIT_TYPE),
+        attribute(INT_TYPE, UNIT_TYPE),
+        attribute(INT_TYPE, UNIT_TYPE),
         node(0),
         node(1),
         node(1),

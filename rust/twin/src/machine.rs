@@ -223,10 +223,12 @@ fn evaluate(
                         attribute,
                         word: value.word(),
                     };
-                    let word = match store.find(key) {
-                        Found::Value(kept) => kept,
+                    let result = sheet.result(attribute);
+                    value = match store.find(key) {
+                        Found::Value(kept) => result.value(kept),
                         Found::Nothing(free) => match sheet.definition(node, attribute) {
                             Definition::Figure(figure) => {
+                                let figure = result.value(figure);
                                 store.append(free, key, figure);
                                 figure
                             }
@@ -246,7 +248,6 @@ fn evaluate(
                             }
                         },
                     };
-                    value = sheet.result(attribute).value(word);
                     height = top;
                 }
                 Frame::Form => {
@@ -257,7 +258,7 @@ fn evaluate(
                         attribute: form.attribute,
                         word: form.parameter.word(),
                     };
-                    store.write(key, value.word());
+                    store.write(key, value);
                     if open == 0 {
                         piece = question;
                         widths = &noted[..];

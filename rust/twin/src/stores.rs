@@ -5,6 +5,7 @@ use calls::{Refusal, Stop};
 
 use crate::bytes::{four, two};
 use crate::sheets::Sheet;
+use crate::values::Value;
 
 const ENTRY: usize = 12;
 const MOST_ENTRIES: usize = 1_024;
@@ -118,19 +119,19 @@ impl<'a> Store<'a> {
     }
 
     /// Appends an occurrence that is not kept, if the store is not full. `free` is what the search for it gave.
-    pub fn append(&mut self, free: usize, key: Key, value: u32) {
+    pub fn append(&mut self, free: usize, key: Key, value: Value) {
         if let Some(entry) = self.entries.get_mut(self.kept) {
             entry[..2].copy_from_slice(&key.node.to_le_bytes());
             entry[2] = key.attribute;
-            entry[3] = 0;
+            entry[3] = value.type_code();
             entry[4..8].copy_from_slice(&key.word.to_le_bytes());
-            entry[8..].copy_from_slice(&value.to_le_bytes());
+            entry[8..].copy_from_slice(&value.word().to_le_bytes());
             self.link(free);
         }
     }
 
     /// CacheWrite.
-    pub fn write(&mut self, key: Key, value: u32) {
+    pub fn write(&mut self, key: Key, value: Value) {
         if self.kept < self.entries.len() {
             if let Found::Nothing(free) = self.find(key) {
                 self.append(free, key, value);
@@ -143,7 +144,7 @@ impl<'a> Store<'a> {
 fn is_entry(sheet: &Sheet, entry: &[u8; ENTRY], key: Key) -> bool {
     usize::from(key.node) < sheet.nodes
         && usize::from(key.attribute) < sheet.attributes
-        && entry[3] == 0
+        && entry[3] == sheet.result(key.attribute).code()
         && sheet.parameter(key.attribute).has(key.word, sheet.nodes)
         && sheet.result(key.attribute).has(four(entry, 8), sheet.nodes)
 }

@@ -25,6 +25,16 @@ impl Base {
         }
     }
 
+    /// The type's code.
+    pub fn code(self) -> u8 {
+        match self {
+            Base::Unit => 0,
+            Base::Bool => 1,
+            Base::Int => 2,
+            Base::Node => 3,
+        }
+    }
+
     /// Whether a number is the four-byte form of a value of this type.
     pub fn has(self, word: u32, nodes: usize) -> bool {
         match self {
@@ -131,13 +141,13 @@ impl Value {
     }
 
     /// The code of a base value's type.
-    pub fn type_code(self) -> i64 {
+    pub fn type_code(self) -> u8 {
         match self {
             Value::Unit => 0,
             Value::Bool(_) => 1,
             Value::Int(_) => 2,
             Value::Node(_) => 3,
-            Value::Function(_) | Value::Holding(_) => unreachable!("no answer is a function"),
+            Value::Function(_) | Value::Holding(_) => unreachable!("a function has no code"),
         }
     }
 

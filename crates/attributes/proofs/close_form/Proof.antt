@@ -19,7 +19,6 @@ close-form-spec =
     (λ c. search needs)
     (λ c. search needs)
     (λ c. search word-fits)
-    (λ c κs. search needs)
     (λ c κs. search (needs, form-keyed))
     (λ c. search needs)  -- memory[f + 2]
     (λ c. search needs)

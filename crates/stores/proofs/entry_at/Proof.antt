@@ -13,9 +13,8 @@ entry-at-spec =
     (λ c. search needs)  -- the attribute
     (λ c. search needs)
     (λ c κs. search needs)
-    (λ c. search needs)  -- the fourth byte
+    (λ c. search needs)  -- the type code
     (λ c. search needs)
-    (λ c κs. search needs)
     (λ c. search needs)  -- the parameter
     (λ c κs. search needs)
     (λ c. search needs)  -- the value

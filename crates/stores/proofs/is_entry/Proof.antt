@@ -1,6 +1,6 @@
 -- `stores::is_entry` meets its contract: each answer by the test that gives it (Checks.antt).
 use borrow.Author.Needs.{needs}
-use Rattle.stores.proofs.Checks.{node-fails, attribute-fails, zero-fails, parameter-fails, by-value}
+use Rattle.stores.proofs.Checks.{node-fails, attribute-fails, type-fails, parameter-fails, by-value}
 use Rattle.stores.proofs.is_entry.Statement.{statement}
 use Rattle.stores.proofs.is_entry.Tie as tie
 
@@ -13,10 +13,11 @@ is-entry-spec =
     (λ c. search needs)
     (λ c s a n. search node-fails)
     (λ c s a n. search attribute-fails)
-    (λ c s a n. search zero-fails)
-    (λ c κs. search needs)  -- the parameter's word
+    (λ c κs. search needs)  -- the types
     (λ c κs. search needs)
+    (λ c κs. search needs)
+    (λ c s a n. search type-fails)
+    (λ c κs. search needs)  -- the parameter's word
     (λ c s a n. search parameter-fails)
     (λ c κs. search needs)  -- the value's word
-    (λ c κs. search needs)
     (λ c s a n. search by-value))

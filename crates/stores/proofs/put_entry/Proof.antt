@@ -15,8 +15,7 @@ put-entry-spec =
     (λ c. search needs)  -- the attribute
     (λ c. search needs)
     (λ c. search needs)
-    (λ c. search needs)  -- the fourth byte
-    (λ c. search needs)
+    (λ c. search needs)  -- the type code
     (λ c. simp length-set (omega arith))
     (λ c. search needs)  -- the parameter
     (λ c κs. simp length-set (omega arith))

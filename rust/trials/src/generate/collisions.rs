@@ -9,7 +9,7 @@ use super::draft::{int, Draft};
 use super::rng::Rng;
 use super::writer::{apply, literal, number};
 use crate::collide::{of_one_bucket, of_pair, Key, ATTRIBUTES, LONGEST_PATH};
-use crate::write::{entry, of, sum};
+use crate::write::{entry, of, sum, INT_TYPE};
 
 /// Keys that fall into one bucket.
 #[derive(Clone)]
@@ -104,7 +104,7 @@ impl Colliding {
         let mut kept = 0;
         for (place, key) in store.chunks_exact_mut(ENTRY).zip(&self.keys) {
             let word = key.word as i32;
-            place.copy_from_slice(&entry(key.node, key.attribute, word, int(rng)));
+            place.copy_from_slice(&entry(key.node, key.attribute, INT_TYPE, word, int(rng)));
             kept += 1;
         }
         kept

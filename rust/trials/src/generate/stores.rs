@@ -1,9 +1,9 @@
-//! First stores: new, used, wrong in their values, or refused.
+//! First stores: new, used, wrong in their values, old, or refused.
 
 use oracle::ask::ask_accepted;
 use oracle::sheet::Sheet;
-use oracle::store::{ENTRY, MOST_ENTRIES};
-use oracle::values::NULL;
+use oracle::store::{entry, Occurrence, ENTRY, MOST_ENTRIES};
+use oracle::values::{Base, NULL};
 
 use super::draft::{base_value, Draft};
 use super::questions::question;
@@ -25,10 +25,10 @@ pub fn lent(rng: &mut Rng, number: u64, draft: &Draft, sheet: &Sheet) -> (Vec<u8
             return (store, kept);
         }
     }
-    let kept = match rng.below(24) {
+    let kept = match rng.below(26) {
         0..=14 => 0,
         15 | 16 => used(rng, draft, sheet, &mut store),
-        17 => made_up(rng, sheet, &mut store),
+        17 => made_up(rng, sheet, &mut store, &Base::ALL),
         18 | 19 => {
             let kept = used(rng, draft, sheet, &mut store);
             make_wrong(rng, sheet, &mut store, kept);
@@ -39,7 +39,7 @@ pub fn lent(rng: &mut Rng, number: u64, draft: &Draft, sheet: &Sheet) -> (Vec<u8
             corrupt(rng, &mut store, kept)
         }
         21 => {
-            let kept = made_up(rng, sheet, &mut store);
+            let kept = made_up(rng, sheet, &mut store, &Base::ALL);
             corrupt(rng, &mut store, kept)
         }
         22 => {
@@ -47,6 +47,8 @@ pub fn lent(rng: &mut Rng, number: u64, draft: &Draft, sheet: &Sheet) -> (Vec<u8
             store.resize(length, 0);
             rng.below(3) as u64
         }
+        23 => old_dump(rng, sheet, &mut store, &Base::ALL),
+        24 => old_dump(rng, sheet, &mut store, &[Base::Unit]),
         _ => rng.pick(&[capacity as u64 + 1, capacity as u64 + 2, 1_025, u64::MAX]),
     };
     (store, kept)
@@ -78,30 +80,42 @@ fn used(rng: &mut Rng, draft: &Draft, sheet: &Sheet, store: &mut [u8]) -> u64 {
     kept
 }
 
-/// Writes good entries with any values, seldom the right ones.
-fn made_up(rng: &mut Rng, sheet: &Sheet, store: &mut [u8]) -> u64 {
+/// Writes good entries of some types with any values, seldom the right ones.
+fn made_up(rng: &mut Rng, sheet: &Sheet, store: &mut [u8], types: &[Base]) -> u64 {
     let nodes = sheet.node_count();
-    let attributes = sheet.attributes();
+    let attributes: Vec<_> = (0..)
+        .zip(sheet.attributes())
+        .filter(|(_, declared)| types.contains(&declared.result))
+        .collect();
     if nodes == 0 || attributes.is_empty() {
         return 0;
     }
-    let mut written: Vec<[u8; 8]> = Vec::new();
+    let mut written = Vec::new();
     let most = rng.between(1, 40);
-    for entry in store.chunks_exact_mut(ENTRY).take(most) {
-        let attribute = rng.below(attributes.len());
-        let declared = attributes[attribute];
-        let node = (rng.below(nodes) as u16).to_le_bytes();
-        let parameter = base_value(rng, declared.parameter, nodes).to_bytes();
-        let mut occurrence = [node[0], node[1], attribute as u8, 0, 0, 0, 0, 0];
-        occurrence[4..].copy_from_slice(&parameter);
+    for place in store.chunks_exact_mut(ENTRY).take(most) {
+        let (attribute, declared) = rng.pick(&attributes);
+        let occurrence = Occurrence {
+            node: rng.below(nodes) as u16,
+            attribute,
+            parameter: base_value(rng, declared.parameter, nodes),
+        };
         if written.contains(&occurrence) {
             break;
         }
         written.push(occurrence);
-        entry[..8].copy_from_slice(&occurrence);
-        entry[8..].copy_from_slice(&base_value(rng, declared.result, nodes).to_bytes());
+        let value = base_value(rng, declared.result, nodes);
+        place.copy_from_slice(&entry(occurrence, value));
     }
     written.len() as u64
+}
+
+/// Writes entries as they were before they carried a type. Only Units pass.
+fn old_dump(rng: &mut Rng, sheet: &Sheet, store: &mut [u8], types: &[Base]) -> u64 {
+    let kept = made_up(rng, sheet, store, types);
+    for entry in store.chunks_exact_mut(ENTRY).take(kept as usize) {
+        entry[3] = 0;
+    }
+    kept
 }
 
 /// Gives some kept entries other values of their types.
@@ -125,7 +139,8 @@ fn corrupt(rng: &mut Rng, store: &mut [u8], kept: u64) -> u64 {
     let at = rng.below(entries) * ENTRY;
     match rng.below(5) {
         0 => store[at + rng.below(ENTRY)] ^= 1 << rng.below(8),
-        1 => store[at + 3] = rng.between(1, 255) as u8,
+        // another type, or no type's code
+        1 => store[at + 3] ^= rng.pick(&[1, 2, 3, 4, 0x80]),
         2 => {
             let field = at + rng.pick(&[0, 4, 8]);
             store[field..field + 2].copy_from_slice(&NULL.to_le_bytes());

@@ -190,7 +190,7 @@ fn part_d_is_tried_from_wrong_stores_and_refused_sheets_too() {
         }
     };
     let mut wrong = case(1, &[d()]);
-    wrong.store = entry(1, DIAL, 0, 5);
+    wrong.store = entry(1, DIAL, INT_TYPE, 0, 5);
     wrong.kept = 1;
     let violation = demand3(&mut by_budget.clone(), &wrong).expect_err("the budget shows");
     assert_eq!(violation.part, "demand 3 (d)");
@@ -264,7 +264,7 @@ fn lists_are_written_as_they_are_read() {
     let text = listed.to_string();
     assert!(text.contains("\nask 18446744073709551615 220213010010 -> 11 0 0 0 0 0\n"));
     assert!(text.contains("\nask 1000000 - -> 12 0 0 0 0 1\n"));
-    assert!(text.ends_with("left 1 0000000000000000ffff0000\n"));
+    assert!(text.ends_with("left 1 0000000300000000ffff0000\n"));
     assert_eq!(read_lists(&text), Ok(vec![listed.clone()]));
     let twice = format!("{text}{text}");
     assert_eq!(read_lists(&twice), Ok(vec![listed.clone(), listed]));

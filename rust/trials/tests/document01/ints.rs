@@ -42,9 +42,13 @@ fn the_four_ends_are_read_alike_in_every_place() {
         // A parameter, and what is kept of it and of its value.
         let mut store = [0xEE; 12];
         assert_eq!(ask_in(&mut store, 0, &echo(written)), brings(1, 1));
-        assert_eq!(store[..], entry(0, ECHO, written, written));
+        assert_eq!(store[..], entry(0, ECHO, INT_TYPE, written, written));
         // The value of an entry, and the parameter of another.
-        let mut store = [entry(0, ECHO, 5, written), entry(0, ECHO, written, 9)].concat();
+        let mut store = [
+            entry(0, ECHO, INT_TYPE, 5, written),
+            entry(0, ECHO, INT_TYPE, written, 9),
+        ]
+        .concat();
         let lent = store.clone();
         assert_eq!(ask_in(&mut store, 2, &echo(5)), brings(1, 2));
         assert_eq!(ask_in(&mut store, 2, &echo(written)).value, 9);

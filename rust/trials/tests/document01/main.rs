@@ -1,4 +1,4 @@
-//! What documents 01 and 02 say, case by case, put to the second evaluator. The cases of `ints`, `sheet_l` and `stops` are put to
+//! What documents 01 and 02 say, case by case, put to the second evaluator. The cases of `ints`, `sheet_l`, `stops` and `types` are put to
 //! `crate::ask`, so that another test can put them to another engine.
 
 mod common;
@@ -7,6 +7,7 @@ mod ints;
 mod page;
 mod sheet_l;
 mod stops;
+mod types;
 mod vectors;
 
 use oracle::ask::ask;

@@ -32,11 +32,11 @@ fn l1_keeps_five_in_order() {
     let given = lent.ask(&sheet_l(), &d(), MOST);
     assert_eq!(given, Answer::from([0, 0, 2, 700, 8, 5]));
     let kept = [
-        entry(1, OWN, 0, 0),
-        entry(1, UP, 0, 0),
-        entry(0, OWN, 0, 700),
-        entry(0, DIAL, 0, 700),
-        entry(1, DIAL, 0, 700),
+        entry(1, OWN, INT_TYPE, 0, 0),
+        entry(1, UP, NODE_TYPE, 0, 0),
+        entry(0, OWN, INT_TYPE, 0, 700),
+        entry(0, DIAL, INT_TYPE, 0, 700),
+        entry(1, DIAL, INT_TYPE, 0, 700),
     ]
     .concat();
     assert_eq!(lent.store[..60], kept);
@@ -48,7 +48,7 @@ fn l2_keeps_nothing_that_was_still_open() {
     let mut lent = Lent::new(1_024);
     let given = lent.ask(&sheet_l(), &d(), 7);
     assert_eq!(given, Answer::from([15, 0, 0, 0, 7, 2]));
-    let kept = [entry(1, OWN, 0, 0), entry(1, UP, 0, 0)].concat();
+    let kept = [entry(1, OWN, INT_TYPE, 0, 0), entry(1, UP, NODE_TYPE, 0, 0)].concat();
     assert_eq!(lent.store[..24], kept);
     assert!(lent.store[24..].iter().all(|byte| *byte == 0xEE));
 }
@@ -90,10 +90,10 @@ fn l8_keeps_the_old_entries_when_full() {
     let mut lent = Lent::new(4);
     lent.ask(&sheet_l(), &l6(), MOST);
     let kept = [
-        entry(1, OWN, 0, 0),
-        entry(1, UP, 0, 0),
-        entry(0, OWN, 0, 700),
-        entry(0, DIAL, 0, 700),
+        entry(1, OWN, INT_TYPE, 0, 0),
+        entry(1, UP, NODE_TYPE, 0, 0),
+        entry(0, OWN, INT_TYPE, 0, 700),
+        entry(0, DIAL, INT_TYPE, 0, 700),
     ]
     .concat();
     assert_eq!(lent.store, kept);
@@ -104,7 +104,7 @@ fn l10_stops_on_null() {
     let mut lent = Lent::new(1_024);
     let given = lent.ask(&sheet_l(), &l10(), MOST);
     assert_eq!(given, Answer::from([14, 0, 0, 0, 1, 1]));
-    assert_eq!(lent.store[..12], entry(0, UP, 0, 65_535));
+    assert_eq!(lent.store[..12], entry(0, UP, NODE_TYPE, 0, 65_535));
 }
 
 #[test]
@@ -201,7 +201,7 @@ fn each_parameter_has_its_own_entry() {
     let sum = binary(4, &of_int(3), &binary(4, &of_int(9), &of_int(3)));
     let given = lent.ask(&sheet, &sum, MOST);
     assert_eq!(given, Answer::from([0, 0, 2, 15, 7, 2]));
-    let kept = [entry(0, 0, 3, 3), entry(0, 0, 9, 9)].concat();
+    let kept = [entry(0, 0, INT_TYPE, 3, 3), entry(0, 0, INT_TYPE, 9, 9)].concat();
     assert_eq!(lent.store[..24], kept);
 }
 
@@ -213,7 +213,11 @@ fn a_figure_holds_for_every_parameter_and_is_kept_for_each() {
     let mut lent = Lent::new(3);
     let given = lent.ask(&sheet, &question, MOST);
     assert_eq!(given, Answer::from([0, 0, 1, 1, 4, 2]));
-    let kept = [entry(0, 0, 1, 65_535), entry(0, 0, 0, 65_535)].concat();
+    let kept = [
+        entry(0, 0, NODE_TYPE, 1, 65_535),
+        entry(0, 0, NODE_TYPE, 0, 65_535),
+    ]
+    .concat();
     assert_eq!(lent.store, [kept, vec![0xEE; 12]].concat());
 }
 

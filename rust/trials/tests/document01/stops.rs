@@ -359,16 +359,17 @@ fn stop_9_the_stores_shape() {
 
 #[test]
 fn stop_10_the_first_faulty_entry() {
-    let good = entry(0, OWN, 0, 5);
+    let good = entry(0, OWN, INT_TYPE, 0, 5);
     let bad = [
-        entry(3, OWN, 0, 5),
-        entry(65_535, OWN, 0, 5),
-        entry(1, 3, 0, 5),
-        entry(1, OWN, 1, 5),
-        entry(1, UP, 0, 3),
-        entry(1, UP, 0, -1),
-        entry(0, OWN, 0, 6),
-        [&entry(1, OWN, 0, 5)[..3], &[1; 9]].concat(),
+        entry(3, OWN, INT_TYPE, 0, 5),
+        entry(65_535, OWN, INT_TYPE, 0, 5),
+        entry(1, 3, INT_TYPE, 0, 5),
+        entry(1, OWN, INT_TYPE, 1, 5),
+        entry(1, UP, NODE_TYPE, 0, 3),
+        entry(1, UP, NODE_TYPE, 0, -1),
+        entry(0, OWN, INT_TYPE, 0, 6),
+        entry(1, OWN, NODE_TYPE, 0, 0),
+        entry(1, OWN, 4, 0, 5),
     ];
     for bad in &bad {
         let store = [&good, bad, bad, &good].map(|entry| &entry[..]).concat();
@@ -396,16 +397,16 @@ fn stop_10_looks_at_values_of_every_type() {
     ]
     .concat();
     let number = |entry: Vec<u8>| ask(&sheet, &mut entry.clone(), 1, &UNIT, 0).number;
-    assert_eq!(number(entry(0, 0, 1, 0)), 0);
-    assert_eq!(number(entry(0, 0, 2, 0)), 10);
-    assert_eq!(number(entry(0, 0, 1, 1)), 10);
-    assert_eq!(number(entry(0, 1, 0, 1)), 0);
-    assert_eq!(number(entry(0, 1, 0, 256)), 10);
-    assert_eq!(number(entry(0, 2, 65_535, -1)), 0);
-    assert_eq!(number(entry(0, 2, 1, 0)), 10);
-    assert_eq!(number(entry(0, 3, i32::MIN, 0)), 0);
-    assert_eq!(number(entry(0, 3, 0, 65_535)), 0);
-    assert_eq!(number(entry(0, 3, 0, 0x0001_FFFF)), 10);
+    assert_eq!(number(entry(0, 0, UNIT_TYPE, 1, 0)), 0);
+    assert_eq!(number(entry(0, 0, UNIT_TYPE, 2, 0)), 10);
+    assert_eq!(number(entry(0, 0, UNIT_TYPE, 1, 1)), 10);
+    assert_eq!(number(entry(0, 1, BOOL_TYPE, 0, 1)), 0);
+    assert_eq!(number(entry(0, 1, BOOL_TYPE, 0, 256)), 10);
+    assert_eq!(number(entry(0, 2, INT_TYPE, 65_535, -1)), 0);
+    assert_eq!(number(entry(0, 2, INT_TYPE, 1, 0)), 10);
+    assert_eq!(number(entry(0, 3, NODE_TYPE, i32::MIN, 0)), 0);
+    assert_eq!(number(entry(0, 3, NODE_TYPE, 0, 65_535)), 0);
+    assert_eq!(number(entry(0, 3, NODE_TYPE, 0, 0x0001_FFFF)), 10);
 }
 
 #[test]
@@ -564,14 +565,18 @@ fn stop_16_holds_for_kept_occurrences_too() {
 
 #[test]
 fn a_wrong_store_is_believed() {
-    let mut store = [entry(1, DIAL, 0, -9), vec![0xEE; 12]].concat();
+    let mut store = [entry(1, DIAL, INT_TYPE, 0, -9), vec![0xEE; 12]].concat();
     let given = ask(&sheet_l(), &mut store, 1, &d(), MOST);
     assert_eq!(given, Answer::from([0, 0, 2, -9, 1, 1]));
     let given = ask(&sheet_l(), &mut store, 1, &l10(), MOST);
     assert_eq!(given, Answer::from([14, 0, 0, 0, 1, 2]));
     assert_eq!(
         store,
-        [entry(1, DIAL, 0, -9), entry(0, UP, 0, 65_535)].concat()
+        [
+            entry(1, DIAL, INT_TYPE, 0, -9),
+            entry(0, UP, NODE_TYPE, 0, 65_535)
+        ]
+        .concat()
     );
 }
 

@@ -1,8 +1,8 @@
--- Each code has its number by computation.
+-- `values::base_code` meets its contract: each byte has its code by computation.
 use borrow.Author.Tests.{ne-eqb}
 use Rattle.saiga.specs.Values.{baseOf}
-use Rattle.expressions.proofs.numbers.base_number.Statement.{statement}
-use Rattle.expressions.proofs.numbers.base_number.Tie as tie
+use Rattle.values.proofs.base_code.Statement.{statement}
+use Rattle.values.proofs.base_code.Tie as tie
 
 returns : tie.Need-returns
 unfolding baseOf
@@ -20,5 +20,5 @@ returns-4 : tie.Need-returns-4
 unfolding baseOf
 returns-4 c = rw (ne-eqb _ 0 (c .match .rest .0 .0 .1), ne-eqb _ 1 (c .match .rest .0 .1), ne-eqb _ 2 (c .match .rest .1))
 
-pub base-number-spec : {M : Type 1} → statement M
-base-number-spec = tie.close (tie.spec returns returns-2 returns-3 returns-4)
+pub base-code-spec : {M : Type 1} → statement M
+base-code-spec = tie.close (tie.spec returns returns-2 returns-3 returns-4)
