@@ -91,7 +91,7 @@ enum {
     /* the run */
     SOFRETU_NULL = 14,             /* an attribute of null was due */
     SOFRETU_SPENT = 15,            /* a counted step was due with the whole budget used */
-    SOFRETU_DEPTH = 16             /* an attribute was due inside 64 open ones */
+    SOFRETU_DEPTH = 16             /* an attribute that is not kept was due inside 64 open ones */
 };
 
 /* One question with all its checks. Under stops 1 to 13 the store stays as it was lent. It makes its scratch on its stack and clears it, some 220 KB:

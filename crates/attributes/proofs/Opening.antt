@@ -29,24 +29,25 @@ use Rattle.engine.specs.Ready.{memoryOf}
 use Rattle.engine.specs.CodeSteps.{keptIn}
 use Rattle.engine.proofs.RunMemory.{form-opened}
 use Rattle.engine.specs.Steps.{Memory, Stepped, goes, waits, stops, answered, cacheWrite, openRule, openFigure, takeKept, attributeDue}
-use Rattle.attributes.specs.Due.{WriteReady, FormReady, RuleReady, AttributeReady}
+use Rattle.attributes.specs.Due.{WriteReady, StepReady, RuleReady, AttributeReady}
 
 -- ---- The figure, or the rule
 
 module _ (sheet index store links run : List ℕ) (m : Registers) (n a : ℕ) (ready : AttributeReady sheet index store links run m n a) where
-  -- There is a frame to give the value to, and the step can be counted.
-  pub frame-there : 1 ≤ m .frames
-  frame-there = ready .form .frame .framed
-
-  pub step-fits : m .steps + 1 < 18446744073709551616
-  step-fits = ready .form .counts
+  -- A value can be answered: there is a frame to give it to, and the step can be counted.
+  pub answer-ready : (1 ≤ m .frames) × (m .steps + 1 < 18446744073709551616)
+  answer-ready = (ready .step .frame .framed, ready .step .counts)
 
   -- Where no figure is found, there is a rule.
-  pub rule-ready : (r : FoundFigure) → figureOf r ≡ indexed (getD index (figurePlace n a) 0) (figureAt sheet a) → r ≡ NoFigure
+  pub rule-ready : m .forms < 64 → (r : FoundFigure) → figureOf r ≡ indexed (getD index (figurePlace n a) 0) (figureAt sheet a) → r ≡ NoFigure
       → RuleReady sheet index run m n a
   unfolding indexed
-  rule-ready r found is =
-      record { rule = record { pair = ready .pair; ruled = ready .defined (go (getD index (figurePlace n a) 0) (sym found ∙ ap figureOf is)) }; form = ready .form }
+  rule-ready few r found is =
+      record {
+        rule = record { pair = ready .pair; ruled = ready .defined (go (getD index (figurePlace n a) 0) (sym found ∙ ap figureOf is)) };
+        step = ready .step;
+        few = few;
+      }
     where
       go : (j : ℕ) → indexed j (figureAt sheet a) ≡ none → j ≡ 0
       go zero e = refl
@@ -74,8 +75,8 @@ pub opening-keeps : (sheet index store links run run′ : List ℕ) (m r : Regis
 unfolding openRule
 opening-keeps sheet index store links run run′ m r n a word opened linked = rw (ap (keptIn 0) (opened store)) linked
 
-pub steps-fit : (run : List ℕ) (m : Registers) → FormReady run m → m .steps + 1 < 18446744073709551616
-steps-fit run m ready = ready .counts
+pub step-fits : (run : List ℕ) (m : Registers) → StepReady run m → m .steps + 1 < 18446744073709551616
+step-fits run m ready = ready .counts
 
 -- The piece of a rule is as long as its command says, and ends within the sheet.
 module _ (sheet index : List ℕ) (n a : ℕ) (rule : IndexedRule sheet index n a) (piece : List ℕ)
@@ -97,7 +98,7 @@ module _ (sheet index : List ℕ) (n a : ℕ) (rule : IndexedRule sheet index n 
   pub rule-short : (start : ℕ) → start ≡ place + 4 → start + length piece < 18446744073709551616
   rule-short start starts = omega (arith, starts, piece-length, here .room, here .short)
 
-  pub rule-runs : (store run : List ℕ) (m : Registers) (word start f : ℕ) → FormReady run m → start ≡ place + 4 → f ≡ formPlace (m .forms)
+  pub rule-runs : (store run : List ℕ) (m : Registers) (word start f : ℕ) → StepReady run m → start ≡ place + 4 → f ≡ formPlace (m .forms)
       → goes record {
         returning = false;
         at = start;
@@ -122,32 +123,59 @@ module _ (sheet index : List ℕ) (n a : ℕ) (rule : IndexedRule sheet index n 
 
 -- ---- A kept value, or the definition
 
--- what the code found of the occurrence in the store
-module _ (store : List ℕ) (m : Registers) (q : Key) (found : Found) (is : foundOf found ≡ findKey store (m .kept) q) where
-  pub takes-definition : (sheet index run run′ store′ : List ℕ) (r : Registers) (cell : ℕ) → found ≡ Nothing cell → q .word ≡ toWord (m .value)
-      → goes r (memoryOf store′ run′)
-      ≡ openFigure sheet index (memoryOf store run) m (q .node) (q .attribute) (q .word)
-      (indexed (getD index (figurePlace (q .node) (q .attribute)) 0) (figureAt sheet (q .attribute)))
-      → goes r (memoryOf store′ run′) ≡ takeKept sheet index (memoryOf store run) m (q .node) (q .attribute) (findKey store (m .kept) q)
-  unfolding takeKept
-  takes-definition sheet index run run′ store′ r cell nothing word opened = rw (nothing-found _ _ is refl nothing) (rw word at opened)
+-- What the code found of the occurrence in the store, and where it leaves the memory.
+module _ (sheet index store run : List ℕ) (limit : ℕ) (m : Registers) (q : Key) (found : Found) (is : foundOf found ≡ findKey store (m .kept) q) where
+  abbrev takenNow : Stepped
+  takenNow = takeKept sheet index limit (memoryOf store run) m (q .node) (q .attribute) (findKey store (m .kept) q)
+
+  module _ (cell : ℕ) (nothing : found ≡ Nothing cell) where
+    pub takes-deep : 64 ≤ m .forms → stops 16 ≡ takenNow
+    unfolding takeKept
+    takes-deep deep = rw (nothing-found _ _ is refl nothing, le-leb 64 (m .forms) deep)
+
+    module _ (few : m .forms < 64) where
+      pub missing-waits : limit ≤ m .steps → waits ≡ takenNow
+      unfolding takeKept
+      missing-waits reached = rw (nothing-found _ _ is refl nothing, lt-leb 64 (m .forms) few, le-leb limit (m .steps) reached)
 
   module _ (j : ℕ) (at-j : found ≡ At j) where
-    pub kept-within : (links : List ℕ) → WriteReady store links (m .kept) → 12 * j + 12 ≤ length store
-    kept-within links writes = let (below, same) = found-below _ _ _ _ (found-at _ _ is refl _ at-j) in omega (arith, below, writes .linked .stands)
-
-    pub kept-is-word : (sheet index links run : List ℕ) (w code : ℕ) → AttributeReady sheet index store links run m (q .node) (q .attribute)
-        → q .word ≡ toWord (m .value) → w ≡ valueWord store j → code ≡ resultAt sheet (q .attribute) → isWord 1024 (baseOf code) w ≡ true
-    kept-is-word sheet index links run w code ready word is-word typed =
-        let due : q ≡ record { node = q .node; attribute = q .attribute; word = toWord (m .value) } =
-        λ i. record { node = q .node; attribute = q .attribute; word = word i } in
-        rw (typed, is-word) (ready .kept-word _ (rw due at (found-at _ _ is refl _ at-j)))
-
-    pub takes-kept : (sheet index run : List ℕ) (r : Registers) (v : Value) (w code : ℕ) → w ≡ valueWord store j → code ≡ resultAt sheet (q .attribute)
-        → v ≡ ofWord (baseOf code) w → r ≡ answered m (m .kept) v
-        → goes r (memoryOf store run) ≡ takeKept sheet index (memoryOf store run) m (q .node) (q .attribute) (findKey store (m .kept) q)
+    pub kept-waits : limit ≤ m .steps → waits ≡ takenNow
     unfolding takeKept
-    takes-kept sheet index run r v w code word typed value by = rw (by, found-at _ _ is refl _ at-j, value, typed, word)
+    kept-waits reached = rw (found-at _ _ is refl _ at-j, le-leb limit (m .steps) reached)
+
+    pub takes-kept : m .steps < limit → (r : Registers) (v : Value) (w code : ℕ) → w ≡ valueWord store j → code ≡ resultAt sheet (q .attribute)
+        → v ≡ ofWord (baseOf code) w → r ≡ answered m (m .kept) v → goes r (memoryOf store run) ≡ takenNow
+    unfolding takeKept
+    takes-kept before r v w code word typed value by =
+        rw (by, found-at _ _ is refl _ at-j, lt-leb limit (m .steps) before, value, typed, word)
+
+-- The occurrence is not kept, and neither depth nor the limit is against its definition.
+pub record Missing (store : List ℕ) (limit : ℕ) (m : Registers) (q : Key) : Type 0 where
+  pub none-kept : findKey store (m .kept) q ≡ none
+  pub few : m .forms < 64
+  pub before : m .steps < limit
+  pub word : q .word ≡ toWord (m .value)
+
+pub takes-definition : (sheet index store run : List ℕ) (limit : ℕ) (m : Registers) (q : Key) → Missing store limit m q → (run′ store′ : List ℕ) (r : Registers)
+    → goes r (memoryOf store′ run′)
+    ≡ openFigure sheet index (memoryOf store run) m (q .node) (q .attribute) (q .word)
+    (indexed (getD index (figurePlace (q .node) (q .attribute)) 0) (figureAt sheet (q .attribute)))
+    → goes r (memoryOf store′ run′) ≡ takeKept sheet index limit (memoryOf store run) m (q .node) (q .attribute) (findKey store (m .kept) q)
+unfolding takeKept
+takes-definition sheet index store run limit m q missing run′ store′ r opened =
+    rw (missing .none-kept, lt-leb 64 (m .forms) (missing .few), lt-leb limit (m .steps) (missing .before)) (rw (missing .word) at opened)
+
+-- A kept value is read within the store, and is one of its type.
+module _ (store : List ℕ) (m : Registers) (q : Key) (found : Found) (is : foundOf found ≡ findKey store (m .kept) q) (j : ℕ) (at-j : found ≡ At j) where
+  pub kept-within : (links : List ℕ) → WriteReady store links (m .kept) → 12 * j + 12 ≤ length store
+  kept-within links writes = let (below, same) = found-below _ _ _ _ (found-at _ _ is refl _ at-j) in omega (arith, below, writes .linked .stands)
+
+  pub kept-is-word : (sheet index links run : List ℕ) (w code : ℕ) → AttributeReady sheet index store links run m (q .node) (q .attribute)
+      → q .word ≡ toWord (m .value) → w ≡ valueWord store j → code ≡ resultAt sheet (q .attribute) → isWord 1024 (baseOf code) w ≡ true
+  kept-is-word sheet index links run w code ready word is-word typed =
+      let due : q ≡ record { node = q .node; attribute = q .attribute; word = toWord (m .value) } =
+      λ i. record { node = q .node; attribute = q .attribute; word = word i } in
+      rw (typed, is-word) (ready .kept-word _ (rw due at (found-at _ _ is refl _ at-j)))
 
 -- what is answered keeps the number that it is given
 pub answer-keeps : (store links : List ℕ) (m r : Registers) (v : Value) (kept : ℕ) → r ≡ answered m kept v → Linked store kept links → Linked store (r .kept) links
@@ -157,7 +185,7 @@ pub kept-answer-keeps : (sheet index store links run : List ℕ) (m r : Register
     → r ≡ answered m (m .kept) v → Linked store (r .kept) links
 kept-answer-keeps sheet index store links run m r v n a ready by = rw by (ready .writes .linked)
 
--- ---- The limits, in the order of their numbers
+-- ---- Null and the budget, in the order of their numbers
 
 -- The node that the word `w` holds, which the code reads in three calls.
 pub node-held : (w held node : ℕ) (v : Value) → node ≡ nodeOf v → v ≡ valueIn held → held ≡ heldNode w → node ≡ nodeOf (valueIn (heldNode w))
@@ -180,45 +208,24 @@ module _ (w held node : ℕ) (v : Value) (holds : held ≡ heldNode w) (unpacked
       unfolding attributeDue
       due-spent used = rw (sym node-is, ne-eqb node 65535 no-null, le-leb budget (m .steps) used)
 
-      module _ (left : m .steps < budget) where
-        pub due-deep : 64 ≤ m .forms → stops 16 ≡ dueNow
-        unfolding attributeDue
-        due-deep deep = rw (sym node-is, ne-eqb node 65535 no-null, lt-leb budget (m .steps) left, le-leb 64 (m .forms) deep)
-
-        module _ (few : m .forms < 64) where
-          pub due-waits : limit ≤ m .steps → waits ≡ dueNow
-          unfolding attributeDue
-          due-waits reached =
-              rw (sym node-is, ne-eqb node 65535 no-null, lt-leb budget (m .steps) left, lt-leb 64 (m .forms) few, le-leb limit (m .steps) reached)
-
--- No limit stops AttrApp, with the node and the attribute that the code read from the word `w`.
-pub record DueStep (sheet index store links run : List ℕ) (budget limit : ℕ) (m : Registers) (w node a : ℕ) : Type 0 where
+-- Neither null nor the budget stops AttrApp, with the node and the attribute that the code read from the word `w`.
+pub record DueStep (sheet index store links run : List ℕ) (budget : ℕ) (m : Registers) (w node a : ℕ) : Type 0 where
   pub node-is : node ≡ nodeOf (valueIn (heldNode w))
   pub attribute-is : a ≡ heldAttribute w
   pub no-null : node ≡ 65535 → ⊥
   pub left : m .steps < budget
-  pub few : m .forms < 64
-  pub before : m .steps < limit
-  pub ready : (nodeOf (valueIn (heldNode w)) ≡ 65535 → ⊥) → m .steps < budget → m .forms < 64
+  pub ready : (nodeOf (valueIn (heldNode w)) ≡ 65535 → ⊥) → m .steps < budget
       → AttributeReady sheet index store links run m (nodeOf (valueIn (heldNode w))) (heldAttribute w)
 
-module _ (sheet index store links run : List ℕ) (budget limit : ℕ) (m : Registers) (w node a : ℕ)
-    (due : DueStep sheet index store links run budget limit m w node a) where
+module _ (sheet index store links run : List ℕ) (budget : ℕ) (m : Registers) (w node a : ℕ)
+    (due : DueStep sheet index store links run budget m w node a) where
   pub due-ready : AttributeReady sheet index store links run m node a
-  due-ready =
-      rw (due .node-is, due .attribute-is) (due .ready (λ e. due .no-null (due .node-is ∙ e)) (due .left) (due .few))
+  due-ready = rw (due .node-is, due .attribute-is) (due .ready (λ e. due .no-null (due .node-is ∙ e)) (due .left))
 
-  pub due-goes : (word : ℕ) (r : Registers) (mem′ : Memory) → word ≡ toWord (m .value)
-      → goes r mem′
-      ≡ takeKept sheet index (memoryOf store run) m node a (findKey store (m .kept) record { node = node; attribute = a; word = word })
-      → goes r mem′ ≡ attributeDue sheet index budget limit (memoryOf store run) m (nodeOf (valueIn (heldNode w))) (heldAttribute w)
+  pub due-taken : (limit word : ℕ) (stepped : Stepped) → word ≡ toWord (m .value)
+      → stepped
+      ≡ takeKept sheet index limit (memoryOf store run) m node a (findKey store (m .kept) record { node = node; attribute = a; word = word })
+      → stepped ≡ attributeDue sheet index budget limit (memoryOf store run) m (nodeOf (valueIn (heldNode w))) (heldAttribute w)
   unfolding attributeDue
-  due-goes word r mem′ is-word taken =
-      rw (
-        ← (due .node-is),
-        ne-eqb node 65535 (due .no-null),
-        lt-leb budget (m .steps) (due .left),
-        lt-leb 64 (m .forms) (due .few),
-        lt-leb limit (m .steps) (due .before),
-      )
-      (rw (due .attribute-is, is-word) at taken)
+  due-taken limit word stepped is-word taken =
+      rw (← (due .node-is), ne-eqb node 65535 (due .no-null), lt-leb budget (m .steps) (due .left)) (rw (due .attribute-is, is-word) at taken)

@@ -3,11 +3,10 @@ use mathlib.Core.Bool.{true}
 use mathlib.Core.List.{List}
 use mathlib.Core.Option.{some}
 use mathlib.Core.Path.{_≡_}
-use Prim.Native.Nat.{ℕ, _+_, _*_, _^_, _≤_, _<_}
+use Prim.Native.Nat.{ℕ, _+_, _^_, _≤_, _<_}
 use lib.ListN.{length, getD}
 use Rattle.saiga.specs.Limits.{nodeLimit, storeLimit, depthLimit}
 use Rattle.saiga.specs.Values.{wordLimit, baseOf, isWord, toWord}
-use Rattle.saiga.specs.Sheet.{attributeCount}
 use Rattle.values.specs.Layout.{resultAt}
 use Rattle.sheets.specs.Scan.{figurePlace, IndexedPair, IndexedRule, ruleNumber}
 use Rattle.stores.specs.Keys.{Linked, findKey, valueWord}
@@ -26,16 +25,16 @@ pub record CloseReady (store links run : List ℕ) (m : Registers) : Type 0 wher
   pub node : NodeReady run m
   pub word-small : getD run (innermostPlace m + 1) 0 < wordLimit
 
--- There is room for one form more.
-pub record FormReady (run : List ℕ) (m : Registers) : Type 0 where
+-- There is a frame to give the value to, and the step can be counted.
+pub record StepReady (run : List ℕ) (m : Registers) : Type 0 where
   pub frame : FrameReady run m
-  pub few : m .forms < depthLimit
   pub counts : m .steps + 1 < 2 ^ 64
 
 -- a rule to run, and room for its form
 pub record RuleReady (sheet index : List ℕ) (run : List ℕ) (m : Registers) (n a : ℕ) : Type 0 where
   pub rule : IndexedRule sheet index n a
-  pub form : FormReady run m
+  pub step : StepReady run m
+  pub few : m .forms < depthLimit
 
 -- A declared pair of an indexed sheet, of which one definition is there, and whose kept value is one of its type.
 pub record AttributeReady (sheet index : List ℕ) (store links run : List ℕ) (m : Registers) (n a : ℕ) : Type 0 where
@@ -44,4 +43,4 @@ pub record AttributeReady (sheet index : List ℕ) (store links run : List ℕ) 
   pub kept-word : (j : ℕ) → findKey store (m .kept) record { node = n; attribute = a; word = toWord (m .value) } ≡ some j
       → isWord nodeLimit (baseOf (resultAt sheet a)) (valueWord store j) ≡ true
   pub writes : WriteReady store links (m .kept)
-  pub form : FormReady run m
+  pub step : StepReady run m

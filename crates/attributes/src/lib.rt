@@ -137,7 +137,7 @@ fn open_definition(
     key: Key,
     cell: usize,
 ) -> Registers
-    requires { ⌜ Keyed key × (findKey (now store) (m .kept) key ≡ none) × Free (now links) key cell ⌝ }
+    requires { ⌜ Keyed key × (findKey (now store) (m .kept) key ≡ none) × Free (now links) key cell × (m .forms < depthLimit) ⌝ }
     requires { ⌜ AttributeReady (now sheet) (now index) (now store) (now links) (now memory) m (key .node) (key .attribute) ⌝ }
     ensures { λ r. ⌜ goes r (memoryOf (now (store .exit)) (now (memory .exit)))
         ≡ openFigure (now (sheet .entry)) (now (index .entry)) (memoryOf (now (store .entry)) (now (memory .entry))) m (key .node) (key .attribute) (key .word)
@@ -152,39 +152,50 @@ fn open_definition(
     engine::answered(m, kept, v)
 }
 
-// AttrApp: a kept value before the definition.
+// AttrApp: a kept value before the definition. Only the definition needs room for a form, be it a figure; a step that is due at the limit waits.
 fn take_attribute(
     sheet: &[u8],
     index: &[u16],
     store: &mut [u8],
     links: &mut [u16],
     memory: &mut [u64],
+    limits: Limits,
     m: Registers,
     key: Key,
-) -> Registers
+) -> Step
     requires { ⌜ (key .word ≡ toWord (m .value)) × Keyed key ⌝ }
     requires { ⌜ AttributeReady (now sheet) (now index) (now store) (now links) (now memory) m (key .node) (key .attribute) ⌝ }
-    ensures { λ r. ⌜ goes r (memoryOf (now (store .exit)) (now (memory .exit)))
-        ≡ takeKept (now (sheet .entry)) (now (index .entry)) (memoryOf (now (store .entry)) (now (memory .entry))) m (key .node) (key .attribute)
-        (findKey (now (store .entry)) (m .kept) key) ⌝ }
-    ensures { λ r. ⌜ Linked (now (store .exit)) (r .kept) (now (links .exit)) ⌝ }
+    ensures { λ r. ⌜ steppedOf r (memoryOf (now (store .exit)) (now (memory .exit)))
+        ≡ takeKept (now (sheet .entry)) (now (index .entry)) (limits .pause) (memoryOf (now (store .entry)) (now (memory .entry))) m
+        (key .node) (key .attribute) (findKey (now (store .entry)) (m .kept) key) ⌝ }
+    ensures { λ r. ⌜ Linked (now (store .exit)) (keptAfter r m) (now (links .exit)) ⌝ }
+    ensures { λ r. ⌜ Still r (memoryOf (now (store .entry)) (now (memory .entry))) (memoryOf (now (store .exit)) (now (memory .exit))) ⌝ }
 {
     match stores::find(store, m.kept, links, key) {
         Found::At(j) => {
+            if limits.pause <= m.steps {
+                return Step::Waits;
+            }
             let a = key.attribute as usize;
-            engine::answered(
+            Step::Goes(engine::answered(
                 m,
                 m.kept,
                 values::value_of(values::result_at(sheet, a), stores::value_word(store, j)),
-            )
+            ))
         }
         Found::Nothing(cell) => {
-            open_definition(sheet, index, store, links, memory, m, key, cell)
+            if DEPTH_LIMIT <= m.forms {
+                return Step::Stops(16);
+            }
+            if limits.pause <= m.steps {
+                return Step::Waits;
+            }
+            Step::Goes(open_definition(sheet, index, store, links, memory, m, key, cell))
         }
     }
 }
 
-// AttrApp is due with the node and the attribute that the frame's word holds: the limits in the order of their numbers, then the step.
+// AttrApp is due with the node and the attribute that the frame's word holds: null and the budget, then what the store has of it.
 pub fn attribute_due(
     sheet: &[u8],
     index: &[u16],
@@ -196,7 +207,7 @@ pub fn attribute_due(
     w: u64,
 ) -> Step
     requires { ⌜ Linked (now store) (m .kept) (now links) ⌝ }
-    requires { ⌜ ((nodeOf (valueIn (heldNode w)) ≡ null → ⊥) → m .steps < limits .budget → m .forms < depthLimit
+    requires { ⌜ ((nodeOf (valueIn (heldNode w)) ≡ null → ⊥) → m .steps < limits .budget
         → AttributeReady (now sheet) (now index) (now store) (now links) (now memory) m (nodeOf (valueIn (heldNode w))) (heldAttribute w)) ⌝ }
     ensures { λ r. ⌜ steppedOf r (memoryOf (now (store .exit)) (now (memory .exit)))
         ≡ attributeDue (now (sheet .entry)) (now (index .entry)) (limits .budget) (limits .pause) (memoryOf (now (store .entry)) (now (memory .entry))) m
@@ -211,17 +222,11 @@ pub fn attribute_due(
     if limits.budget <= m.steps {
         return Step::Stops(15);
     }
-    if DEPTH_LIMIT <= m.forms {
-        return Step::Stops(16);
-    }
-    if limits.pause <= m.steps {
-        return Step::Waits;
-    }
     let value = m.value;
     let key = Key {
         node: node as u32,
         attribute: engine::frames::attribute(w) as u32,
         word: values::word_of(value),
     };
-    Step::Goes(take_attribute(sheet, index, store, links, memory, m, key))
+    take_attribute(sheet, index, store, links, memory, limits, m, key)
 }

@@ -1,6 +1,6 @@
 -- An accepted question is put to a checked store: its run, and what it brings.
 use mathlib.Core.List.{List}
-use mathlib.Core.Path.{_≡_, refl, sym, ap, _∙_}
+use mathlib.Core.Path.{_≡_, sym, ap, _∙_}
 use Prim.Native.Nat.{ℕ, _/_}
 use native.Mathlib.Omega.{arith}
 use lib.ListN.{length}
@@ -86,4 +86,4 @@ module _ {sheet index notes question store links memory : List ℕ} {kept budget
 
       -- A run whose limit is its budget does not pause: it is spent there, or it ends.
       pub paused : {m : Registers} {A : Type 0} → r ≡ End.Pauses m → A
-      paused end = let (_, _, reached, left, _) = rw end at (ran store kept whole begins-at) in absurd (omega arith)
+      paused end = let pause = rw end at (ran store kept whole begins-at) in absurd (omega (arith, pause .reached, pause .left))

@@ -12,13 +12,14 @@ use native.Mathlib.Numerals.{add-one}
 use lib.Dec.{leb, eqb}
 use lib.ListN.{length, take, drop, getD, set, length-set}
 use lib.Seq.{getD-set-same, getD-set-other}
-use borrow.Author.Tests.{leb-true, leb-false, lt-ltb, le-ltb, lt-leb, eq-eqb, ne-eqb}
+use borrow.Author.Tests.{leb-true, leb-false, lt-ltb, le-ltb, eq-eqb, ne-eqb}
 use Rattle.saiga.specs.Values.{boolT, nodeT, Ty, base, _⇒_, null, nodeOf, baseOf, ofBytes, ofWord, toWord}
 use Rattle.saiga.specs.declared.Value.{Value}
 use Rattle.saiga.specs.Types.{Attribute, attributeAt}
 use Rattle.saiga.specs.Sheet.{Sheet, nodeCount, attributeCount, Definition, figure, piece-of, ruled, figured, definition, isDefined, accepted}
 use Rattle.saiga.specs.Terms.{Occurrence, val, cond, app, attr, form}
-use Rattle.saiga.specs.Caching.{Entry, Running, kept, write, AttrApp, null-node, spent, depth}
+use Rattle.saiga.specs.Caching.{Entry, Running, kept, write, AttrApp, null-node, spent, depth, tooDeep}
+use Rattle.saiga.proofs.Depth.{not-deep-kept, not-deep-few, deep-missing}
 use Rattle.saiga.specs.Store.{checkStore}
 use Rattle.saiga.specs.Ask.{reasonNumber}
 use Rattle.saiga.specs.Sound.{IsA, ValueIn, OccurrenceIn, RunningIn, val∈, cond∈, app∈, attr∈, form∈}
@@ -35,13 +36,14 @@ use Rattle.engine.specs.Machine.{Frame, on-if, on-left, on-skip, on-righ
 use Rattle.engine.specs.Machine as Machine
 use Rattle.engine.specs.FrameWords.{kindOf, ifKind, leftKind, skipKind, rightKind, nodeKind, parameterKind, formKind, heldAttribute, heldNode}
 use Rattle.engine.specs.Decode.{sheetOf, entriesOf, plainFrame, formOccurrence, formRest, framesIn, modeOf, machineOf, Placed}
-use Rattle.engine.specs.Steps.{Memory, Stepped, goes, answered, cacheWrite, closeForm, openRule, openFigure, takeKept, attributeDue}
+use Rattle.engine.specs.Steps.{Memory, Stepped, goes, waits, answered, cacheWrite, closeForm, untilLimit, openRule, openFigure, takeKept, attributeDue}
 use Rattle.engine.specs.declared.Registers.{Registers}
 use Rattle.engine.proofs.Bounds.{represents-sized, frames-fit}
 use Rattle.engine.specs.Machine.{Next, by-move, by-step}
 use Rattle.engine.specs.Represents.{machineIn, Represents, Matches}
 use Rattle.engine.proofs.Decoding.{frames-count}
 use Rattle.engine.proofs.StoreWritten.{keyOf, ByKey, Written, cache-write}
+use Rattle.engine.proofs.Limited.{until-holds}
 
 -- ---- Types
 
@@ -361,159 +363,182 @@ module _ {sheet index question : List ℕ} {mem : Memory} {m : Registers} (r : R
         let t = attr-in (plug-in s under _ _ (value-typed (on-parameter held a ∷ under) parameter-frames) .1) in
         (t .0, val-in (t .1), val-in (t .2))
 
+    -- The occurrence due is of the sheet, and so is its definition.
+    module _ (no-null : eqb (nodeOf held) null ≡ false) where
+      pub due-in : OccurrenceIn (nodeCount s) (s .attributes) due
+      due-in = record { node-declared = declared (parameter-typed .1) no-null; attribute-declared = parameter-typed .0; parameter-in = parameter-typed .2 }
+
+      pub attribute-is : attributeAt (s .attributes) a ≡ attributeIn sheet a
+      attribute-is = attribute-by-index sheet s index (r .index-of .described) a (parameter-typed .0)
+
+      pub definition-at : definition s (nodeOf held) a
+          ≡ figured (indexed (getD index (figurePlace (nodeOf held) a) 0) (figureAt sheet a)) (ruled (indexed (ruleNumber sheet index (nodeOf held) a) (pieceAt sheet)))
+      definition-at = rw (← (r .index-of .attributes-in)) at (definition-by-index sheet s index (r .index-of .described) (nodeOf held) a (due-in .node-declared) (due-in .attribute-declared))
+
+      parameter-is : ofWord (baseOf (getD sheet (3 * a + 2) 0)) (toWord (m .value)) ≡ m .value
+      parameter-is = rw attribute-is at (parameter-typed .2 .round-trip)
+
+      figure-in : (at : ℕ) → getD index (figurePlace (nodeOf held) a) 0 ≡ suc at
+          → IsA (nodeCount s) (attributeAt (s .attributes) a .result) (figureAt sheet a at)
+      unfolding figureAt
+      figure-in at e =
+          rw attribute-is (word-in _ _ _ (r .index-of .described .figure-fits (nodeOf held) a at (due-in .node-declared) (due-in .attribute-declared) e .1))
+
     module _ (capacity budget limit : ℕ) (room : length (mem .store) / 12 ≡ capacity) where
+      abbrev P : Stepped → Type 0
+      P = Matches sheet question capacity budget limit m M
+
       at-frame : move s capacity budget M ≡ Machine.attributeDue s capacity budget M due under
       unfolding machineOf give
       at-frame = move-gives s capacity budget M (m .value) _ mode-is parameter-frames
 
-      module _ (no-null : eqb (nodeOf held) null ≡ false) (left : m .steps < budget) (few : m .forms < 64) where
-        pub due-in : OccurrenceIn (nodeCount s) (s .attributes) due
-        due-in = record { node-declared = declared (parameter-typed .1) no-null; attribute-declared = parameter-typed .0; parameter-in = parameter-typed .2 }
+      module _ (no-null : eqb (nodeOf held) null ≡ false) (left : m .steps < budget) where
+        -- AttrApp with nothing against it
+        module _ (shallow : tooDeep entries (openForms under) due ≡ false) where
+          takes-it : move s capacity budget M ≡ takes (AttrApp a) (applied s capacity budget M due under (kept entries due))
+          unfolding machineOf Machine.attributeDue
+          takes-it =
+              at-frame
+              ∙ rw (no-null, lt-ltb (m .steps) budget left, ap (λ es. tooDeep es (openForms under) due) entries-are ∙ shallow)
+              (ap (takes (AttrApp a)) (ap (λ es. applied s capacity budget M due under (kept es due)) entries-are))
 
-        takes-next : {next : Machine} → applied s capacity budget M due under (kept entries due) ≡ next → Next s capacity budget M next
-        unfolding machineOf Machine.attributeDue
-        takes-next e =
-            by-step (AttrApp a)
-            (at-frame
-            ∙ rw (no-null, lt-ltb (m .steps) budget left, under-counted, lt-leb 64 (m .forms) few)
-            (ap (takes (AttrApp a)) (ap (λ es. applied s capacity budget M due under (kept es due)) entries-are ∙ e)))
+          -- at the limit it waits
+          waits-or : (next : Stepped) → P next → P (untilLimit limit m next)
+          waits-or next h = until-holds P limit m next (λ reached. (AttrApp a, _, takes-it, reached, left)) (λ _. h)
 
-        -- the value is there at once
-        answers : (v : Value) (after : List Entry) (w : List ℕ × ℕ) → Written s (mem .store) after w
-            → applied s capacity budget M due under (kept entries due) ≡ counted s capacity budget M (returning v) (M .rest) under after
-            → Matches sheet question capacity budget limit m M (goes (answered m (w .1) v) record { store = w .0; words = mem .words; forms = mem .forms })
-        unfolding machineOf modeOf entriesOf
-        answers v after w written e =
-            let h = r .holds in (
-              takes-next (e ∙ same-machine refl refl refl (rw (written .passes)) (sym (add-one (m .steps)))),
-              record {
-                words-size = h .words-size;
-                forms-size = h .forms-size;
-                few = h .few;
-                counted = under-counted;
-                from = h .from;
-                to = h .to;
-                placed = h .placed;
-                entries = after;
-                stored = written .passes;
-              },
-              rw (written .same-length) room,
+          takes-next : {next : Machine} → applied s capacity budget M due under (kept entries due) ≡ next → Next s capacity budget M next
+          takes-next e = by-step (AttrApp a) (takes-it ∙ ap (takes (AttrApp a)) e)
+
+          -- the value is there at once
+          answers : (v : Value) (after : List Entry) (w : List ℕ × ℕ) → Written s (mem .store) after w
+              → applied s capacity budget M due under (kept entries due) ≡ counted s capacity budget M (returning v) (M .rest) under after
+              → P (goes (answered m (w .1) v) record { store = w .0; words = mem .words; forms = mem .forms })
+          unfolding machineOf modeOf entriesOf
+          answers v after w written e =
+              let h = r .holds in (
+                takes-next (e ∙ same-machine refl refl refl (rw (written .passes)) (sym (add-one (m .steps)))),
+                record {
+                  words-size = h .words-size;
+                  forms-size = h .forms-size;
+                  few = h .few;
+                  counted = under-counted;
+                  from = h .from;
+                  to = h .to;
+                  placed = h .placed;
+                  entries = after;
+                  stored = written .passes;
+                },
+                rw (written .same-length) room,
+              )
+
+        -- by the definition of what is not kept, inside fewer than 64 forms
+        module _ (absent : kept entries due ≡ none) (few : m .forms < 64) where
+          shallow : tooDeep entries (openForms under) due ≡ false
+          shallow = not-deep-few entries (openForms under) due (omega (arith, under-counted))
+
+          by-definition : (d : Definition) → definition s (nodeOf held) a ≡ d
+              → applied s capacity budget M due under (kept entries due) ≡ defined s capacity budget M due under d
+          unfolding applied
+          by-definition d e = rw (absent, e)
+
+          form-fits : 4 * m .forms + 4 ≤ length (mem .forms)
+          form-fits = omega arith
+
+          words-fit : m .frames ≤ length (mem .words)
+          unfolding machineOf
+          words-fit = omega (arith, frames-fit (represents-sized r), frames-count sheet question (mem .forms) (mem .words) (m .frames) (m .forms))
+
+          abbrev forms′ : List ℕ
+          forms′ = setFour (mem .forms) (4 * m .forms) (nodeOf held * 32 + a) (toWord (m .value)) (m .at) (m .end)
+
+          due-frames : framesIn sheet question (set (mem .words) (m .frames - 1) 6) forms′ (m .frames) (m .forms + 1)
+              ≡ on-form due (restOf sheet question (m .forms) (m .at) (m .end)) ∷ under
+          due-frames =
+              rw (parameter-is no-null) at
+              (opened-frames sheet question (mem .words) (mem .forms) (m .frames) (m .forms) (nodeOf held) a (toWord (m .value)) (m .at) (m .end) (omega arith) form-fits
+              framed words-fit under-counted)
+
+          -- a piece of the sheet runs inside a form
+          runs : (start end : ℕ) → definition s (nodeOf held) a ≡ piece-of (restOf sheet question (m .forms + 1) start end) → start ≤ end → end ≤ length sheet
+              → P (goes record {
+                returning = false;
+                at = start;
+                end = end;
+                frames = m .frames;
+                forms = m .forms + 1;
+                kept = m .kept;
+                steps = m .steps + 1;
+                value = m .value;
+              } record { store = mem .store; words = set (mem .words) (m .frames - 1) 6; forms = forms′ })
+          unfolding machineOf modeOf pieceIn openForms defined
+          runs start end is in-order inside =
+              let h = r .holds in (
+                takes-next shallow (by-definition _ is ∙ same-machine refl refl (sym due-frames) refl (sym (add-one (m .steps)))),
+                record {
+                  words-size = length-set (mem .words) (m .frames - 1) 6 ∙ h .words-size;
+                  forms-size = simp length-set (h .forms-size);
+                  few = omega arith;
+                  counted = rw due-frames (omega (arith, under-counted));
+                  from = in-order;
+                  to = rw add-one inside;
+                  placed = opened-placed sheet question (mem .words) (mem .forms) (m .frames) (m .forms) (nodeOf held) a (toWord (m .value)) (m .at) (m .end) (omega arith) form-fits
+                      (ap toWord (parameter-is no-null)) (h .from) (h .to) (h .placed);
+                  entries = entries;
+                  stored = h .stored;
+                },
+                room,
+              )
+
+          -- a rule, of which an accepted sheet has one where it has no figure
+          opens : getD index (figurePlace (nodeOf held) a) 0 ≡ 0 → (i : ℕ) → ruleNumber sheet index (nodeOf held) a ≡ i
+              → P (openRule sheet index mem m (nodeOf held) a (toWord (m .value)))
+          unfolding openRule indexed figured ruled isDefined pieceIn restOf pieceAt
+          opens no-figure zero e =
+              let o-in = due-in no-null in
+              absurd (false≢true (rw (definition-at no-null, no-figure, e) at (pair-defined sheet s (r .accepts) (nodeOf held) a (o-in .node-declared) (o-in .attribute-declared))))
+          opens no-figure (suc at) e =
+              let p = due-in no-null .node-declared in
+              let q = due-in no-null .attribute-declared in
+              let kind = kind-by-index sheet s index (r .index-of .described) (nodeOf held) p in
+              let fits = r .index-of .described .rule-fits _ a at (r .index-of .described .kinds-bound (nodeOf held) p) q (rw (kind, ← (r .index-of .attributes-in)) e) in
+              let length-at : suc at + 2 ≡ at + 3 = omega arith in
+              let piece-at : suc at + 4 ≡ at + 5 = omega arith in
+              let width : at + 5 + ofBytes (take 2 (drop (at + 3) sheet)) - (at + 5) ≡ ofBytes (take 2 (drop (at + 3) sheet)) = omega arith in
+              runs _ _ (definition-at no-null ∙ rw (no-figure, e, length-at, piece-at, width, add-one)) (omega arith) (rw (e, length-at, piece-at) (fits .0))
+
+          figures : (i : ℕ) → getD index (figurePlace (nodeOf held) a) 0 ≡ i
+              → P (openFigure sheet index mem m (nodeOf held) a (toWord (m .value)) (indexed i (figureAt sheet a)))
+          unfolding openFigure indexed figured defined
+          figures zero e = opens e _ refl
+          figures (suc at) e =
+              answers shallow _ _ _ (write-at due (figureAt sheet a at) (due-in no-null) (figure-in no-null at e))
+              (by-definition (figure (figureAt sheet a at)) (definition-at no-null ∙ rw e) ∙ same-machine refl refl refl (rw (entries-are, ← room)) refl)
+
+        too-deep : kept entries due ≡ none → 64 ≤ m .forms → P (Stepped.stops 16)
+        unfolding machineOf Machine.attributeDue reasonNumber
+        too-deep absent many =
+            let deep = deep-missing entries (openForms under) due absent (omega (arith, under-counted)) in (
+              depth,
+              at-frame ∙ rw (no-null, lt-ltb (m .steps) budget left, ap (λ es. tooDeep es (openForms under) due) entries-are ∙ deep),
+              refl,
             )
 
-        pub attribute-is : attributeAt (s .attributes) a ≡ attributeIn sheet a
-        attribute-is = attribute-by-index sheet s index (r .index-of .described) a (parameter-typed .0)
-
-        by-definition : kept entries due ≡ none → (d : Definition) → definition s (nodeOf held) a ≡ d
-            → applied s capacity budget M due under (kept entries due) ≡ defined s capacity budget M due under d
-        unfolding applied
-        by-definition absent d e = rw (absent, e)
-
-        pub definition-at : definition s (nodeOf held) a
-            ≡ figured (indexed (getD index (figurePlace (nodeOf held) a) 0) (figureAt sheet a)) (ruled (indexed (ruleNumber sheet index (nodeOf held) a) (pieceAt sheet)))
-        definition-at = rw (← (r .index-of .attributes-in)) at (definition-by-index sheet s index (r .index-of .described) (nodeOf held) a (due-in .node-declared) (due-in .attribute-declared))
-
-        parameter-is : ofWord (baseOf (getD sheet (3 * a + 2) 0)) (toWord (m .value)) ≡ m .value
-        parameter-is = rw attribute-is at (parameter-typed .2 .round-trip)
-
-        form-fits : 4 * m .forms + 4 ≤ length (mem .forms)
-        form-fits = omega arith
-
-        words-fit : m .frames ≤ length (mem .words)
-        unfolding machineOf
-        words-fit = omega (arith, frames-fit (represents-sized r), frames-count sheet question (mem .forms) (mem .words) (m .frames) (m .forms))
-
-        abbrev forms′ : List ℕ
-        forms′ = setFour (mem .forms) (4 * m .forms) (nodeOf held * 32 + a) (toWord (m .value)) (m .at) (m .end)
-
-        due-frames : framesIn sheet question (set (mem .words) (m .frames - 1) 6) forms′ (m .frames) (m .forms + 1)
-            ≡ on-form due (restOf sheet question (m .forms) (m .at) (m .end)) ∷ under
-        due-frames =
-            rw parameter-is at
-            (opened-frames sheet question (mem .words) (mem .forms) (m .frames) (m .forms) (nodeOf held) a (toWord (m .value)) (m .at) (m .end) (omega arith) form-fits
-            framed words-fit under-counted)
-
-        -- a piece of the sheet runs inside a form
-        runs : (start end : ℕ) → kept entries due ≡ none → definition s (nodeOf held) a ≡ piece-of (restOf sheet question (m .forms + 1) start end)
-            → start ≤ end → end ≤ length sheet
-            → Matches sheet question capacity budget limit m M
-            (goes record {
-              returning = false;
-              at = start;
-              end = end;
-              frames = m .frames;
-              forms = m .forms + 1;
-              kept = m .kept;
-              steps = m .steps + 1;
-              value = m .value;
-            } record { store = mem .store; words = set (mem .words) (m .frames - 1) 6; forms = forms′ })
-        unfolding machineOf modeOf pieceIn openForms defined
-        runs start end absent is in-order inside =
-            let h = r .holds in (
-              takes-next (by-definition absent _ is ∙ same-machine refl refl (sym due-frames) refl (sym (add-one (m .steps)))),
-              record {
-                words-size = length-set (mem .words) (m .frames - 1) 6 ∙ h .words-size;
-                forms-size = simp length-set (h .forms-size);
-                few = omega arith;
-                counted = rw due-frames (omega (arith, under-counted));
-                from = in-order;
-                to = rw add-one inside;
-                placed = opened-placed sheet question (mem .words) (mem .forms) (m .frames) (m .forms) (nodeOf held) a (toWord (m .value)) (m .at) (m .end) (omega arith) form-fits
-                    (ap toWord parameter-is) (h .from) (h .to) (h .placed);
-                entries = entries;
-                stored = h .stored;
-              },
-              room,
-            )
-
-        -- a rule, of which an accepted sheet has one where it has no figure
-        opens : kept entries due ≡ none → getD index (figurePlace (nodeOf held) a) 0 ≡ 0 → (i : ℕ) → ruleNumber sheet index (nodeOf held) a ≡ i
-            → Matches sheet question capacity budget limit m M (openRule sheet index mem m (nodeOf held) a (toWord (m .value)))
-        unfolding openRule indexed figured ruled isDefined pieceIn restOf pieceAt
-        opens absent no-figure zero e =
-            absurd (false≢true (rw (definition-at, no-figure, e) at (pair-defined sheet s (r .accepts) (nodeOf held) a (due-in .node-declared) (due-in .attribute-declared))))
-        opens absent no-figure (suc at) e =
-            let p = due-in .node-declared in
-            let q = due-in .attribute-declared in
-            let kind = kind-by-index sheet s index (r .index-of .described) (nodeOf held) p in
-            let fits = r .index-of .described .rule-fits _ a at (r .index-of .described .kinds-bound (nodeOf held) p) q (rw (kind, ← (r .index-of .attributes-in)) e) in
-            let length-at : suc at + 2 ≡ at + 3 = omega arith in
-            let piece-at : suc at + 4 ≡ at + 5 = omega arith in
-            let width : at + 5 + ofBytes (take 2 (drop (at + 3) sheet)) - (at + 5) ≡ ofBytes (take 2 (drop (at + 3) sheet)) = omega arith in
-            runs _ _ absent (definition-at ∙ rw (no-figure, e, length-at, piece-at, width, add-one)) (omega arith) (rw (e, length-at, piece-at) (fits .0))
-
-        figure-in : (at : ℕ) → getD index (figurePlace (nodeOf held) a) 0 ≡ suc at
-            → IsA (nodeCount s) (attributeAt (s .attributes) a .result) (figureAt sheet a at)
-        unfolding figureAt
-        figure-in at e =
-            rw attribute-is (word-in _ _ _ (r .index-of .described .figure-fits (nodeOf held) a at (due-in .node-declared) (due-in .attribute-declared) e .1))
-
-        figures : kept entries due ≡ none → (i : ℕ) → getD index (figurePlace (nodeOf held) a) 0 ≡ i
-            → Matches sheet question capacity budget limit m M
-            (openFigure sheet index mem m (nodeOf held) a (toWord (m .value)) (indexed i (figureAt sheet a)))
-        unfolding openFigure indexed figured defined
-        figures absent zero e = opens absent e _ refl
-        figures absent (suc at) e =
-            answers _ _ _ (write-at due (figureAt sheet a at) due-in (figure-in at e))
-            (by-definition absent (figure (figureAt sheet a at)) (definition-at ∙ rw e) ∙ same-machine refl refl refl (rw (entries-are, ← room)) refl)
-
-        takes-kept : (f : Option ℕ) → findKey (mem .store) (m .kept) (keyOf due) ≡ f
-            → Matches sheet question capacity budget limit m M (takeKept sheet index mem m (nodeOf held) a f)
+        takes-kept : (f : Option ℕ) → findKey (mem .store) (m .kept) (keyOf due) ≡ f → P (takeKept sheet index limit mem m (nodeOf held) a f)
         unfolding takeKept applied
-        takes-kept none e = figures (by-key _ _ _ (r .holds .stored) .missing due due-in e) _ refl
+        takes-kept none e =
+            let absent = by-key _ _ _ (r .holds .stored) .missing due (due-in no-null) e in
+            either P (leb 64 (m .forms)) (λ many. too-deep absent (leb-true 64 (m .forms) many))
+            (λ few. let few = leb-false 64 (m .forms) few in waits-or (shallow absent few) _ (figures absent few _ refl))
         takes-kept (some j) e =
-            let found = rw attribute-is at (by-key _ _ _ (r .holds .stored) .found due j due-in e) in
-            answers _ entries (mem .store, m .kept) (record { passes = r .holds .stored; same-length = refl })
-            (ap (applied s capacity budget M due under) found ∙ same-machine refl refl refl entries-are refl)
+            let found = rw (attribute-is no-null) at (by-key _ _ _ (r .holds .stored) .found due j (due-in no-null) e) in
+            let shallow = not-deep-kept entries (openForms under) due found in
+            waits-or shallow _
+            (answers shallow _ entries (mem .store, m .kept) (record { passes = r .holds .stored; same-length = refl })
+            (ap (applied s capacity budget M due under) found ∙ same-machine refl refl refl entries-are refl))
 
-      pub attribute-matches : Matches sheet question capacity budget limit m M (attributeDue sheet index budget limit mem m (nodeOf held) a)
+      pub attribute-matches : P (attributeDue sheet index budget limit mem m (nodeOf held) a)
       unfolding attributeDue machineOf Machine.attributeDue reasonNumber
       attribute-matches =
           either P (eqb (nodeOf held) null) (λ null. (null-node, at-frame ∙ rw null, refl))
           (λ no-null. either P (leb budget (m .steps)) (λ used. (spent, at-frame ∙ rw (no-null, le-ltb (m .steps) budget (leb-true _ _ used)), refl))
-          (λ unused. let left = leb-false budget (m .steps) unused in
-          either P (leb 64 (m .forms)) (λ deep. (depth, at-frame ∙ rw (no-null, lt-ltb (m .steps) budget left, under-counted, deep), refl))
-          (λ few. either P (leb limit (m .steps)) (λ reached. (leb-true limit (m .steps) reached, left))
-          (λ _. takes-kept no-null left (leb-false 64 (m .forms) few) _ refl))))
-        where
-          P : Stepped → Type 0
-          P st = Matches sheet question capacity budget limit m M st
+          (λ unused. takes-kept no-null (leb-false budget (m .steps) unused) _ refl))

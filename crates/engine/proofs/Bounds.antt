@@ -1,5 +1,5 @@
 -- The machine ends, and stays small: its frames fit into an array of 8,320.
-use mathlib.Core.Bool.{Bool, true, false}
+use mathlib.Core.Bool.{Bool, true, false, _&&_}
 use mathlib.Core.Bool as Bool
 use mathlib.Core.Option.{Option, none, some}
 use mathlib.Core.List.{List, [], _∷_}
@@ -15,7 +15,7 @@ use Rattle.saiga.specs.Values.{null, truth, nodeOf}
 use Rattle.saiga.specs.Expressions.{Expr, Scope, Head, base-literal, function-literal, if-head, application-head, attribute-head, this-head, parameter-head, no-head, headOf, operandWidth, readExpr, no-expression, expression, readWhole}
 use Rattle.saiga.specs.Sheet.{Sheet, ruleScope, Definition, undefined, figure, piece-of, definition}
 use Rattle.saiga.specs.Terms.{Occurrence}
-use Rattle.saiga.specs.Caching.{Entry, Counted}
+use Rattle.saiga.specs.Caching.{Entry, isKept, Counted, tooDeep}
 use Rattle.saiga.proofs.Inference.{cond-passes}
 use Rattle.saiga.proofs.Reading.{read-width}
 use Rattle.engine.specs.Machine.{Next, by-move, by-step, Frame, on-if, on-left, on-skip, on-right, on-node, on-parameter, on-form, Mode, evaluating, returning, Machine, openForms, scopeIn, widthOf, passOver, Move, finishes, moves, takes, stops, readHead, within, branch, defined, applied, attributeDue, give, readNext, moveOf, move}
@@ -120,15 +120,16 @@ module _ (s : Sheet) (capacity budget : ℕ) (entries : List Entry) (steps : ℕ
       within-on v l (on-if ∷ fs) _ _ λ b. within-piece (omega (arith, pass-shorter (scopeIn s (openForms fs)) l)) (λ w. w)
 
   -- a value at once, or a piece
-  module _ (v n : Value) (a : ℕ) (l : List ℕ) (fs : List Frame) (b : steps < budget) (few : length (openForms fs) < 64) where
+  module _ (v n : Value) (a : ℕ) (l : List ℕ) (fs : List Frame) (b : steps < budget) where
     abbrev before : Machine
     before = state (returning v) l (on-parameter n a ∷ fs)
 
-    defined-on : (o : Occurrence) (d : Definition) → definition s (o .node) (o .attribute) ≡ d → Keeps s budget before (defined s capacity budget before o fs d)
+    defined-on : length (openForms fs) < 64 → (o : Occurrence) (d : Definition) → definition s (o .node) (o .attribute) ≡ d
+        → Keeps s budget before (defined s capacity budget before o fs d)
     unfolding defined credits credit modeCredit openForms
-    defined-on o undefined e = within-piece (omega arith) (λ w. w)
-    defined-on o (figure u) e = within-piece (omega arith) (λ w. w)
-    defined-on o (piece-of p) e =
+    defined-on few o undefined e = within-piece (omega arith) (λ w. w)
+    defined-on few o (figure u) e = within-piece (omega arith) (λ w. w)
+    defined-on few o (piece-of p) e =
         record {
           cost = omega arith;
           small = λ ps g w. (omega (arith, short ps), (omega arith, w .1));
@@ -139,14 +140,16 @@ module _ (s : Sheet) (capacity budget : ℕ) (entries : List Entry) (steps : ℕ
         short : Pieces s → length p ≤ 256
         short ps = let r = ps .whole (o .node) (o .attribute) p e in whole-short (ruleScope s) p (r .0) (r .1)
 
-    applied-on : (o : Occurrence) (k : Option Value) → Keeps s budget before (applied s capacity budget before o fs k)
-    unfolding applied credits credit modeCredit openForms
-    applied-on o none = defined-on o _ refl
-    applied-on o (some u) = within-piece (omega arith) (λ w. w)
+    -- a kept value opens no form
+    applied-on : (o : Occurrence) (k : Option Value) → (Bool.not (isKept k) && leb 64 (length (openForms fs))) ≡ false
+        → Keeps s budget before (applied s capacity budget before o fs k)
+    unfolding applied credits credit modeCredit openForms isKept
+    applied-on o none shallow = defined-on (leb-false 64 _ shallow) o _ refl
+    applied-on o (some u) shallow = within-piece (omega arith) (λ w. w)
 
   give-on : (v : Value) (l : List ℕ) (fs : List Frame)
       → Onward (Keeps s budget (state (returning v) l fs)) (give s capacity budget (state (returning v) l fs) v fs)
-  unfolding give attributeDue credits credit modeCredit openForms
+  unfolding give attributeDue tooDeep credits credit modeCredit openForms
   give-on v l [] = tt
   give-on v l (on-if ∷ fs) = branch-on v l fs (truth v)
   give-on v l (on-left ∷ fs) = within-piece (omega arith) (λ w. w)
@@ -156,8 +159,8 @@ module _ (s : Sheet) (capacity budget : ℕ) (entries : List Entry) (steps : ℕ
   give-on v l (on-parameter n a ∷ fs) =
       cond-onward _ (eqb (nodeOf n) null) _ _ (λ h. tt) λ h.
       cond-onward _ (ltb steps budget) _ _ (λ b.
-      cond-onward _ (leb 64 (length (openForms fs))) _ _ (λ h. tt) λ few.
-      applied-on v n a l fs (ltb-true steps budget b) (leb-false 64 _ few) _ _) (λ h. tt)
+      cond-onward _ (tooDeep entries (openForms fs) _) _ _ (λ h. tt) λ shallow.
+      applied-on v n a l fs (ltb-true steps budget b) _ _ shallow) (λ h. tt)
   give-on v l (on-form o outer ∷ fs) =
       record { cost = omega arith; small = λ p g w. (omega arith, w .1 .1); forms = λ n. omega arith; fit = omega arith }
 

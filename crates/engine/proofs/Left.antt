@@ -24,8 +24,9 @@ use Rattle.stores.specs.Keys.{findKey, keyIn, entriesIn, putAt}
 use Rattle.stores.proofs.ByKey.{entries-are, entries-last}
 use Rattle.stores.proofs.Written.{put-length, put-before, put-there, left-more}
 use Rattle.engine.specs.FrameWords.{kindOf, ifKind, leftKind, skipKind, rightKind, nodeKind, formKind}
-use Rattle.engine.specs.Steps.{Memory, Stepped, goes, waits, finishes, stops, readHead, appended, unlessFound, cacheWrite, closeForm, takeIf, within, openRule, openFigure, takeKept, attributeDue, give, readNext, stepOf}
+use Rattle.engine.specs.Steps.{Memory, Stepped, goes, waits, finishes, stops, readHead, appended, unlessFound, cacheWrite, closeForm, takeIf, openRule, openFigure, takeKept, attributeDue, give, readNext, stepOf}
 use Rattle.engine.specs.declared.Registers.{Registers}
+use Rattle.engine.proofs.Limited.{until-holds, within-holds}
 
 -- ---- Moves
 
@@ -75,10 +76,6 @@ module _ (sheet index : List ℕ) (mem : Memory) (m : Registers) where
   next-moves [] = tt
   next-moves (c ∷ l) = reads-moves (headOf c) l
 
-  within-moves : (budget limit : ℕ) (next : Stepped) → P next → P (within budget limit m next)
-  unfolding within
-  within-moves budget limit next h = either P (leb budget (m .steps)) {x = stops 15} (λ _. tt) λ _. either P (leb limit (m .steps)) {x = waits} (λ _. tt) λ _. h
-
   if-moves : (skip : ℕ) (b : Bool) → P (takeIf skip mem m b)
   unfolding takeIf
   if-moves skip true = unchanged
@@ -89,26 +86,25 @@ module _ (sheet index : List ℕ) (mem : Memory) (m : Registers) where
   figure-moves n a word none = unchanged
   figure-moves n a word (some v) = write-changes (mem .store) (m .kept) _
 
-  kept-moves : (n a : ℕ) (f : Option ℕ) → P (takeKept sheet index mem m n a f)
+  kept-moves : (limit n a : ℕ) (f : Option ℕ) → P (takeKept sheet index limit mem m n a f)
   unfolding takeKept
-  kept-moves n a none = figure-moves n a _ _
-  kept-moves n a (some j) = unchanged
+  kept-moves limit n a none = either P (leb 64 (m .forms)) {x = stops 16} (λ _. tt) λ _. until-holds P limit m _ (λ _. tt) (λ _. figure-moves n a _ _)
+  kept-moves limit n a (some j) = until-holds P limit m _ (λ _. tt) (λ _. unchanged)
 
   attribute-moves : (budget limit n a : ℕ) → P (attributeDue sheet index budget limit mem m n a)
   unfolding attributeDue
   attribute-moves budget limit n a =
       either P (eqb n null) {x = stops 14} (λ _. tt) λ _.
       either P (leb budget (m .steps)) {x = stops 15} (λ _. tt) λ _.
-      either P (leb 64 (m .forms)) {x = stops 16} (λ _. tt) λ _.
-      either P (leb limit (m .steps)) {x = waits} (λ _. tt) λ _. kept-moves n a _
+      kept-moves limit n a _
 
   give-moves : (budget limit skip packed w : ℕ) → P (give sheet index budget limit skip packed mem m w)
   unfolding give closeForm
   give-moves budget limit skip packed w =
-      either P (eqb (kindOf w) ifKind) (λ _. within-moves budget limit _ (if-moves skip (truth (m .value)))) λ _.
+      either P (eqb (kindOf w) ifKind) (λ _. within-holds P limit m _ budget (λ _. tt) (λ _ _. tt) (λ _ _. if-moves skip (truth (m .value)))) λ _.
       either P (eqb (kindOf w) leftKind) (λ _. unchanged) λ _.
       either P (eqb (kindOf w) skipKind) (λ _. unchanged) λ _.
-      either P (eqb (kindOf w) rightKind) (λ _. within-moves budget limit _ unchanged) λ _.
+      either P (eqb (kindOf w) rightKind) (λ _. within-holds P limit m _ budget (λ _. tt) (λ _ _. tt) (λ _ _. unchanged)) λ _.
       either P (eqb (kindOf w) nodeKind) (λ _. unchanged) λ _.
       either P (eqb (kindOf w) formKind) (λ _. write-changes (mem .store) (m .kept) _) λ _.
       attribute-moves budget limit _ _

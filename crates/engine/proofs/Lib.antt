@@ -4,6 +4,7 @@ pub mod Simulation
 pub mod Bounds
 pub mod Start
 pub mod Decoding
+pub mod Limited
 pub mod Steps
 pub mod StoreWritten
 pub mod Attributes

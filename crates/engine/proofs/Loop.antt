@@ -13,7 +13,7 @@ use borrow.Author.Tests.{leb-true}
 use Rattle.saiga.specs.Values.{Ty, base}
 use Rattle.saiga.specs.declared.Value.{Value}
 use Rattle.saiga.specs.declared.Value.the-variants.{Unit as unit}
-use Rattle.saiga.specs.Sheet.{Sheet, nodeCount, attributeCount, accepted, checkSheet, questionScope, context}
+use Rattle.saiga.specs.Sheet.{Sheet, nodeCount, accepted, checkSheet, questionScope, context}
 use Rattle.saiga.specs.Caching.{Entry, Due, State, Ending, with-value, Reason, by, Ended, dueAt}
 use Rattle.saiga.specs.Runs.{Runs}
 use Rattle.saiga.specs.Store.{checkStore, entriesBytes, leftStore}
@@ -31,14 +31,14 @@ use Rattle.engine.specs.Machine.{Machine, Next, by-move, by-step, openFo
 use Rattle.engine.specs.Good.{Pieces, Good}
 use Rattle.engine.specs.Cost.{measure}
 use Rattle.engine.proofs.Bounds.{move-falls, small-on, steps-on, represents-sized}
-use Rattle.engine.proofs.Simulation.{Uncounted, same, written, simulates, good-on, runs-on}
+use Rattle.engine.proofs.Simulation.{Uncounted, same, written, Simulates, simulates, good-on, runs-on}
 use Rattle.engine.proofs.Start.{start, start-small, question-start, pieces}
 use Rattle.engine.specs.Decode.{frameLimit, formsSize, sheetIn, sheetOf, entriesOf, framesIn, modeOf, machineOf}
 use Rattle.engine.specs.Steps.{Memory, Stepped, goes, waits, stepOf}
 use Rattle.engine.specs.Steps as Steps
 use Rattle.engine.specs.declared.Registers.{Registers}
 use Rattle.engine.specs.Represents.{machineIn, HoldsIn, Represents, Matches, PacksIn}
-use Rattle.engine.specs.Loop.{Invariant, started, Final}
+use Rattle.engine.specs.Loop.{Invariant, StepDue, started, Final}
 use Rattle.engine.proofs.Whole.{step-whole}
 use Rattle.engine.proofs.Left.{store-moves, left-on}
 
@@ -236,8 +236,11 @@ module _ {sheet index question : List ℕ} {budget : ℕ} {first : List ℕ} {le
       unfolding machineOf
       invariant-falls = move-falls (represents-sized r) (inv .within) invariant-next
 
-    pub invariant-waits : step ≡ waits → (limit ≤ m .steps) × (m .steps < budget)
-    invariant-waits e = matches e
+    pub invariant-waits : step ≡ waits → StepDue sheet question (length first / 12) budget mem m × (limit ≤ m .steps) × (m .steps < budget)
+    invariant-waits e =
+        let (rule, M′, taken, reached, left) = matches e in
+        let (next, due, _) = subst (Simulates s capacity budget (stateOf s M)) taken (simulates s capacity budget rules M (r .good)) in
+        (subst (λ size. StepDue sheet question (size / 12) budget mem m) (inv .room) (record { rule = rule; next = next; due = due }), reached, left)
 
     pub invariant-finishes : step ≡ Steps.finishes → Final first lent whole (with-value (m .value)) mem m
     invariant-finishes e = ended (with-value (m .value)) (runs-on s capacity budget rules M (r .good) (matches e) runs)

@@ -2,7 +2,7 @@
 use mathlib.Core.Bool.{Bool, true, false}
 use mathlib.Core.List.{List, [], _∷_}
 use mathlib.Core.Path.{_≡_, refl, ap}
-use Prim.Native.Nat.{ℕ, suc, _+_, _*_, _-_, _%_, _≤_, _<_}
+use Prim.Native.Nat.{ℕ, suc, _+_, _*_, _-_, _≤_, _<_}
 use native.Mathlib.Omega.{arith}
 use lib.ListN.{length, getD}
 use Rattle.saiga.specs.Values.{Ty, base}
@@ -15,7 +15,7 @@ use Rattle.saiga.proofs.FourBytes.{word-more, word-small}
 use Rattle.sheets.proofs.Indexed.{attribute-by-index}
 use Rattle.engine.specs.RunningPiece.{restOf}
 use Rattle.expressions.specs.Widths.{Starts, headWidth}
-use Rattle.engine.specs.Machine.{Frame, on-if, on-left, on-skip, on-right, on-node, on-parameter, on-form, evaluating, returning, openForms, innermost, scopeIn, termAt, restAt, plug, termOf, stateOf}
+use Rattle.engine.specs.Machine.{Frame, on-if, on-left, on-skip, on-right, on-node, on-parameter, on-form, evaluating, returning, openForms, innermost, scopeIn, plug, termOf, stateOf}
 use Rattle.engine.specs.Good.{Parses, Ready, GoodAt}
 use Rattle.engine.proofs.Bounds.{represents-sized, frames-fit}
 use Rattle.engine.proofs.Heads.{none-inside}

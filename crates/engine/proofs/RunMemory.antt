@@ -4,7 +4,7 @@ use mathlib.Core.List.{List}
 use mathlib.Core.Path.{_≡_, refl, sym, ap, _∙_}
 use Prim.Native.Nat.{ℕ, _+_, _*_, _-_, _/_, _%_, _≤_, _<_}
 use native.Mathlib.Omega.{arith}
-use lib.ListN.{length, take, drop, getD, set, length-take, length-drop}
+use lib.ListN.{length, getD, set, length-take, length-drop}
 use lib.Seq.{take-set-le, drop-set-lt, take-set-lt, drop-set-add, getD-take, getD-drop}
 use Rattle.saiga.specs.declared.Value.{Value}
 use Rattle.saiga.specs.declared.Value.the-variants.{Node as node}
@@ -12,7 +12,7 @@ use Rattle.saiga.specs.Limits.{nodeLimit}
 use Rattle.saiga.specs.Values.{wordLimit, baseOf, isWord, ofWord}
 use Rattle.values.specs.Layout.{parameterAt}
 use Rattle.engine.specs.Decode.{frameLimit, formsSize, runSize, formPlace, wordsIn, formsIn, formOccurrence}
-use Rattle.engine.specs.Steps.{Memory, goes, writeWord, thisNode, thisParameter}
+use Rattle.engine.specs.Steps.{goes, writeWord, thisNode, thisParameter}
 use Rattle.engine.specs.Ready.{memoryOf, innermostPlace, NodeReady, ParameterReady}
 use Rattle.engine.specs.declared.Registers.{Registers}
 

@@ -5,15 +5,14 @@ use mathlib.Core.Option.{Option, none, some}
 use mathlib.Core.List.{List, [], _∷_}
 use mathlib.Core.Path.{_≡_, refl, _∙_}
 use Prim.Native.Nat.{ℕ, suc}
-use lib.Dec.{leb, ltb, eqb}
-use lib.ListN.{length}
+use lib.Dec.{ltb, eqb}
 use Rattle.saiga.specs.Values.{null, truth, nodeOf, apply}
 use Rattle.saiga.specs.declared.Value.{Value}
 use Rattle.saiga.specs.declared.Value.the-variants.{Unit as unit}
 use Rattle.saiga.specs.Expressions.{Expr, Head, base-literal, function-literal, if-head, application-head, attribute-head, this-head, parameter-head, no-head, headOf}
 use Rattle.saiga.specs.Sheet.{Sheet, Definition, undefined, figure, piece-of, definition, wholeExpr, definitionExpr, context}
 use Rattle.saiga.specs.Terms.{Occurrence, val, cond, app, attr, form, put}
-use Rattle.saiga.specs.Caching.{Entry, Running, kept, write, Counted, CondTrue, CondFalse, AppApp, AttrApp, null-node, spent, depth, Due, finished, counts, writes, halts, duePart, count, condRule, keptOr, attrApp, due, State, with-value, by, Ended, dueAt}
+use Rattle.saiga.specs.Caching.{Entry, Running, kept, write, Counted, CondTrue, CondFalse, AppApp, AttrApp, null-node, spent, depth, Due, finished, counts, writes, halts, duePart, count, condRule, keptOr, tooDeep, attrApp, due, State, with-value, by, Ended, dueAt}
 use Rattle.saiga.specs.Runs.{Runs, ends-value, ends-by, goes-counted, goes-writing}
 use Rattle.saiga.proofs.Keeping.{write-kept}
 use Rattle.engine.specs.Machine.{Frame, on-if, on-left, on-skip, on-right, on-node, on-parameter, on-form, Mode, evaluating, returning, Machine, openForms, innermost, scopeIn, plug, termOf, stateOf, Move, finishes, moves, takes, stops, readHead, within, branch, defined, applied, attributeDue, give, readNext, moveOf, move, Next, by-move, by-step}
@@ -150,7 +149,7 @@ module _ (s : Sheet) (capacity budget : ℕ) where
             → dueAt (context s) capacity budget st ≡ carried (λ u. plug s fs u (m .rest)) d
         due-here d u e = part-due fs (m .rest) t (m .entries) (m .steps) d u (is _ ∙ e)
 
-        by-depth : (c : Bool) → leb 64 (length (openForms fs)) ≡ c → eqb (o .node) null ≡ false → ltb (m .steps) budget ≡ true
+        by-depth : (c : Bool) → tooDeep (m .entries) (openForms fs) o ≡ c → eqb (o .node) null ≡ false → ltb (m .steps) budget ≡ true
             → Does st (Bool.cond c (stops depth) next)
         by-depth true e no-null left = (due-here (halts depth) tt (rw (no-null, left, e)), tt)
         by-depth false e no-null left =
@@ -158,12 +157,12 @@ module _ (s : Sheet) (capacity budget : ℕ) where
             ((_, due-here (counts (AttrApp (o .attribute)) opened) tt (rw (no-null, left, e)), u), g)
 
         by-budget : (c : Bool) → ltb (m .steps) budget ≡ c → eqb (o .node) null ≡ false
-            → Does st (Bool.cond c (Bool.cond (leb 64 (length (openForms fs))) (stops depth) next) (stops spent))
-        by-budget true e no-null = by-depth (leb 64 (length (openForms fs))) refl no-null e
+            → Does st (Bool.cond c (Bool.cond (tooDeep (m .entries) (openForms fs) o) (stops depth) next) (stops spent))
+        by-budget true e no-null = by-depth (tooDeep (m .entries) (openForms fs) o) refl no-null e
         by-budget false e no-null = (due-here (halts spent) tt (rw (no-null, e)), tt)
 
         by-null : (c : Bool) → eqb (o .node) null ≡ c
-            → Does st (Bool.cond c (stops null-node) (Bool.cond (ltb (m .steps) budget) (Bool.cond (leb 64 (length (openForms fs))) (stops depth) next) (stops spent)))
+            → Does st (Bool.cond c (stops null-node) (Bool.cond (ltb (m .steps) budget) (Bool.cond (tooDeep (m .entries) (openForms fs) o) (stops depth) next) (stops spent)))
         by-null true e = (due-here (halts null-node) tt (rw e), tt)
         by-null false e = by-budget (ltb (m .steps) budget) refl e
 

@@ -2,13 +2,13 @@
 use mathlib.Core.Bool.{Bool, true, false, false≢true}
 use mathlib.Core.List.{List, [], _∷_}
 use mathlib.Core.Path.{_≡_, refl, sym, ap, _∙_}
-use Prim.Native.Nat.{ℕ, _+_, _*_, _-_, _/_, _%_, _≤_, _<_}
+use Prim.Native.Nat.{ℕ, _+_, _*_, _-_, _/_, _≤_, _<_}
 use native.Mathlib.Nat.{mod-lt}
 use native.Mathlib.Numerals.{add-one}
 use native.Mathlib.Omega.{arith}
-use lib.Dec.{leb, eqb, lit<}
+use lib.Dec.{eqb, lit<}
 use lib.ListN.{length, drop, getD, set, length-set}
-use borrow.Author.Tests.{leb-true, leb-false, ltb-true, eqb-true, eqb-false, lt-ltb, le-ltb}
+use borrow.Author.Tests.{leb-true, ltb-true, eqb-true, eqb-false, lt-ltb, le-ltb}
 use Rattle.saiga.specs.Values.{truth, nodeOf, apply}
 use Rattle.saiga.specs.declared.Value.{Value}
 use Rattle.saiga.specs.declared.Value.the-variants.{Node as node}
@@ -35,6 +35,7 @@ use Rattle.engine.specs.Machine.{Next, by-move, by-step}
 use Rattle.engine.proofs.Heads.{none-inside}
 use Rattle.engine.specs.Represents.{machineIn, HoldsIn, Represents, Matches, Packs, PacksIn}
 use Rattle.engine.proofs.Decoding.{WordOf, if-kind, left-kind, skip-kind, right-kind, node-kind, right-word, node-word, parameter-word, pushed-frame, top-frame, turned-frame, frames-count, innermost-form, rest-on, rest-length, rest-inside, rest-behind}
+use Rattle.engine.proofs.Limited.{within-holds}
 
 -- ---- What reading has tested behind a head
 
@@ -240,11 +241,11 @@ module _ (sheet question : List ℕ) (budget limit : ℕ) (mem : Memory) (m : Re
       -- a counted step, within the limits
       counts : (n : Counted) {after : Machine} (k : Stepped) → next ≡ within s capacity budget M n after → (next ≡ takes n after → Matched k)
           → Matched (Steps.within budget limit m k)
-      unfolding Steps.within within machineOf reasonNumber
-      counts n k e go =
-          either Matched (leb budget (m .steps)) (λ t. (spent, e ∙ rw (le-ltb _ _ (leb-true _ _ t)), refl)) λ t.
-          either Matched (leb limit (m .steps)) (λ u. (leb-true _ _ u, leb-false _ _ t)) λ u.
-          go (e ∙ rw (lt-ltb _ _ (leb-false _ _ t)))
+      unfolding within machineOf reasonNumber
+      counts n {after} k e go =
+          let taken : m .steps < budget → next ≡ takes n after = λ left. e ∙ rw (lt-ltb _ _ left) in
+          within-holds Matched limit m k budget (λ used. (spent, e ∙ rw (le-ltb _ _ used), refl))
+          (λ left reached. (n, _, taken left, reached, left)) (λ left before. go (taken left))
 
       module _ (some : 0 < m .frames) where
         top : {f : Frame} → WordOf word f → frames ≡ f ∷ below

@@ -3,19 +3,19 @@ use mathlib.Core.Bool.{Bool, true, false, false≢true}
 use mathlib.Core.List.{List, [], _∷_}
 use mathlib.Core.Logic.{_⊎_, inl, inr}
 use mathlib.Core.Option.{Option, none, some}
-use mathlib.Core.Path.{_≡_, refl, sym, ap, _∙_}
-use Prim.Native.Nat.{ℕ, zero, suc, _+_, _*_, _-_, _/_, _%_, _≤_, _<_}
+use mathlib.Core.Path.{_≡_, refl, ap, _∙_}
+use Prim.Native.Nat.{ℕ, zero, suc, _+_, _*_, _-_, _≤_, _<_}
 use native.Mathlib.Nat.{add-zero, eq-or-lt-of-le}
 use native.Mathlib.Numerals.{add-one}
 use native.Mathlib.Omega.{arith}
 use lib.Dec.{leb, eqb}
-use lib.ListN.{length, take, drop, getD, set, length-take, length-drop}
+use lib.ListN.{length, take, drop, getD, length-take, length-drop}
 use lib.Seq.{drop-drop, getD-drop}
 use borrow.Author.Tests.{leb-false, eqb-true, eqb-false}
-use Rattle.saiga.specs.Values.{null, nodeOf, ofBytes, toWord, truth}
+use Rattle.saiga.specs.Values.{null, nodeOf, ofBytes, truth}
 use Rattle.saiga.specs.declared.Value.{Value}
 use Rattle.saiga.specs.Expressions.{Head, base-literal, function-literal, if-head, application-head, attribute-head, this-head, parameter-head, no-head, headOf}
-use Rattle.saiga.specs.Sheet.{nodeCount, figured, ruled, isDefined}
+use Rattle.saiga.specs.Sheet.{figured, ruled, isDefined}
 use Rattle.saiga.proofs.Accepted.{pair-defined}
 use Rattle.saiga.proofs.Preservation.{either}
 use Rattle.saiga.proofs.Reading.{read-width}
@@ -23,21 +23,22 @@ use Rattle.values.specs.Packed.{valueIn}
 use Rattle.expressions.specs.Widths.{Starts, headWidth}
 use Rattle.expressions.specs.Noted.{WidthOf, Noted}
 use Rattle.expressions.proofs.Noting.{noted-front, noted-over}
-use Rattle.sheets.specs.Scan.{figurePlace, rulePlace, attributesPlace, figureAt, pieceAt, indexed, ruleNumber}
+use Rattle.sheets.specs.Scan.{figurePlace, figureAt, pieceAt, indexed, ruleNumber}
 use Rattle.sheets.specs.Notes.{RulesNoted}
 use Rattle.sheets.proofs.Indexed.{kind-by-index}
 use Rattle.engine.specs.RunningPiece.{pieceIn, restOf}
 use Rattle.engine.specs.FrameWords.{kindOf, ifKind, leftKind, skipKind, rightKind, nodeKind, parameterKind, formKind, heldAttribute, heldNode}
 use Rattle.engine.specs.Decode.{sheetOf}
-use Rattle.engine.specs.Steps.{Memory, Stepped, goes, waits, finishes, stops, readHead, closeForm, takeIf, within, openRule, openFigure, takeKept, attributeDue, give, readNext, stepOf}
+use Rattle.engine.specs.Steps.{Memory, Stepped, goes, waits, finishes, stops, readHead, closeForm, takeIf, openRule, openFigure, takeKept, attributeDue, give, readNext, stepOf}
 use Rattle.engine.specs.declared.Registers.{Registers}
 use Rattle.engine.specs.Represents.{Represents}
 use Rattle.engine.specs.Ready.{PassReady}
 use Rattle.engine.specs.Tracks.{NotedIn, Tracks}
 use Rattle.engine.proofs.Attributes.{setFour, four-older, four-third, four-last, form-counted, due-in, definition-at}
-use Rattle.engine.proofs.Decoding.{rest-on, rest-length}
+use Rattle.engine.proofs.Decoding.{rest-on}
 use Rattle.engine.proofs.Kept.{by-key}
 use Rattle.engine.proofs.ReadyForCode.{if-starts, skip-starts}
+use Rattle.engine.proofs.Limited.{until-holds, within-holds}
 
 -- ---- One piece
 
@@ -144,10 +145,6 @@ module _ {sheet index question notes : List ℕ} {mem : Memory} {m : Registers} 
   next-tracks [] is = tt
   next-tracks (c ∷ l) is = head-tracks c l is (headOf c) refl
 
-  within-tracks : (budget limit : ℕ) (next : Stepped) → P next → P (within budget limit m next)
-  unfolding within
-  within-tracks budget limit next h = either P (leb budget (m .steps)) {x = stops 15} (λ _. tt) λ _. either P (leb limit (m .steps)) {x = waits} (λ _. tt) λ _. h
-
   over : (skip : ℕ) → Starts bytes → WidthOf bytes skip → NotedIn sheet notes (m .forms) (m .at + skip) (m .end)
   over skip starts width = over-tracked sheet notes question (m .forms) (m .at) (m .end) skip (r .holds .to) starts width (t .here)
 
@@ -178,7 +175,7 @@ module _ {sheet index question notes : List ℕ} {mem : Memory} {m : Registers} 
       abbrev a : ℕ
       a = heldAttribute word
 
-      module _ (budget : ℕ) (no-null : eqb n null ≡ false) (left : m .steps < budget) (few : m .forms < 64) where
+      module _ (no-null : eqb n null ≡ false) (few : m .forms < 64) where
         abbrev forms′ : ℕ → List ℕ
         forms′ w = setFour (mem .forms) (4 * m .forms) (n * 32 + a) w (m .at) (m .end)
 
@@ -205,14 +202,14 @@ module _ {sheet index question notes : List ℕ} {mem : Memory} {m : Registers} 
         rule-tracks : (w : ℕ) → getD index (figurePlace n a) 0 ≡ 0 → (i : ℕ) → ruleNumber sheet index n a ≡ i → P (openRule sheet index mem m n a w)
         unfolding openRule indexed figured ruled isDefined pieceAt
         rule-tracks w no-figure zero e =
-            let o-in = due-in r gives framed (by-key (sheetOf sheet)) late no-form _ budget 0 refl no-null left few in
+            let o-in = due-in r gives framed (by-key (sheetOf sheet)) late no-form no-null in
             absurd (false≢true
-            (rw (definition-at r gives framed (by-key (sheetOf sheet)) late no-form _ budget 0 refl no-null left few, no-figure, e)
+            (rw (definition-at r gives framed (by-key (sheetOf sheet)) late no-form no-null, no-figure, e)
             at (pair-defined sheet (sheetOf sheet) (r .accepts) n a (o-in .node-declared) (o-in .attribute-declared))))
         rule-tracks w no-figure (suc at) e =
             let s = sheetOf sheet in
             let known = r .index-of .described in
-            let o-in = due-in r gives framed (by-key s) late no-form _ budget 0 refl no-null left few in
+            let o-in = due-in r gives framed (by-key s) late no-form no-null in
             let kind = rw (kind-by-index sheet s index known n (o-in .node-declared), ← (r .index-of .attributes-in)) at (known .kinds-bound n (o-in .node-declared)) in
             let size = ofBytes (take 2 (drop (at + 3) sheet)) in
             let fits = known .rule-fits _ a at (known .kinds-bound n (o-in .node-declared)) (o-in .attribute-declared)
@@ -234,27 +231,28 @@ module _ {sheet index question notes : List ℕ} {mem : Memory} {m : Registers} 
         figure-tracks w zero e = rule-tracks w e _ refl
         figure-tracks w (suc at) e = goes-on-at _ _ _ _ _ _ _ _ (t .here)
 
-        kept-tracks : (f : Option ℕ) → P (takeKept sheet index mem m n a f)
-        unfolding takeKept
-        kept-tracks none = figure-tracks _ _ refl
-        kept-tracks (some j) = goes-on-at _ _ _ _ _ _ _ _ (t .here)
+      kept-tracks : eqb n null ≡ false → (limit : ℕ) (f : Option ℕ) → P (takeKept sheet index limit mem m n a f)
+      unfolding takeKept
+      kept-tracks no-null limit none =
+          either P (leb 64 (m .forms)) {x = stops 16} (λ _. tt) λ few.
+          until-holds P limit m _ (λ _. tt) (λ _. figure-tracks no-null (leb-false 64 (m .forms) few) _ _ refl)
+      kept-tracks no-null limit (some j) = until-holds P limit m _ (λ _. tt) (λ _. goes-on-at _ _ _ _ _ _ _ _ (t .here))
 
       attribute-tracks : (budget limit : ℕ) → P (attributeDue sheet index budget limit mem m n a)
       unfolding attributeDue
       attribute-tracks budget limit =
           either P (eqb n null) {x = stops 14} (λ _. tt) λ no-null.
-          either P (leb budget (m .steps)) {x = stops 15} (λ _. tt) λ left.
-          either P (leb 64 (m .forms)) {x = stops 16} (λ _. tt) λ few.
-          either P (leb limit (m .steps)) {x = waits} (λ _. tt) λ _.
-          kept-tracks budget no-null (leb-false budget (m .steps) left) (leb-false 64 (m .forms) few) _
+          either P (leb budget (m .steps)) {x = stops 15} (λ _. tt) λ _.
+          kept-tracks no-null limit _
 
     give-tracks : (budget limit skip packed : ℕ) → WidthOf bytes skip → P (give sheet index budget limit skip packed mem m word)
     unfolding give
     give-tracks budget limit skip packed width =
-        either P (eqb (kindOf word) ifKind) (λ e. within-tracks budget limit _ (if-tracks skip (if-starts r gives framed (eqb-true _ _ e)) width (truth (m .value)))) λ no-if.
+        either P (eqb (kindOf word) ifKind) (λ e. within-holds P limit m _ budget (λ _. tt) (λ _ _. tt)
+        (λ _ _. if-tracks skip (if-starts r gives framed (eqb-true _ _ e)) width (truth (m .value)))) λ no-if.
         either P (eqb (kindOf word) leftKind) (λ _. goes-on-at _ _ _ _ _ _ _ _ (t .here)) λ no-left.
         either P (eqb (kindOf word) skipKind) (λ e. goes-on-at _ _ _ _ _ _ _ _ (over skip (skip-starts r gives framed (eqb-true _ _ e)) width)) λ no-skip.
-        either P (eqb (kindOf word) rightKind) (λ _. within-tracks budget limit _ (goes-on-at _ _ _ _ _ _ _ _ (t .here))) λ no-right.
+        either P (eqb (kindOf word) rightKind) (λ _. within-holds P limit m _ budget (λ _. tt) (λ _ _. tt) (λ _ _. goes-on-at _ _ _ _ _ _ _ _ (t .here))) λ no-right.
         either P (eqb (kindOf word) nodeKind) (λ _. goes-on-at _ _ _ _ _ _ _ _ (t .here)) λ no-node.
         either P (eqb (kindOf word) formKind) (λ e. close-tracks (eqb-true _ _ e)) λ no-form.
         attribute-tracks

@@ -7,7 +7,7 @@ use lib.ListN.{length}
 use Rattle.saiga.specs.Limits.{entryWidth}
 use Rattle.saiga.specs.declared.Value.{Value}
 use Rattle.saiga.specs.Sheet.{context}
-use Rattle.saiga.specs.Caching.{Ending, Ended}
+use Rattle.saiga.specs.Caching.{Running, Counted, counts, Ending, Ended, dueAt}
 use Rattle.saiga.specs.Store.{leftStore}
 use Rattle.saiga.specs.Runs.{Runs}
 use Rattle.engine.specs.Machine.{stateOf}
@@ -26,6 +26,12 @@ pub record Invariant (sheet index question : List ℕ) (budget : ℕ) (first : L
   pub room : length (mem .store) ≡ length first
   pub lent-kept : lent ≤ m .kept
   pub within : m .steps ≤ budget
+
+-- A counted step of Saiga is due where registers and memory stand.
+pub record StepDue (sheet question : List ℕ) (capacity budget : ℕ) (mem : Memory) (m : Registers) : Type 0 where
+  pub rule : Counted
+  pub next : Running
+  pub due : dueAt (context (sheetOf sheet)) capacity budget (stateOf (sheetOf sheet) (machineIn sheet question mem m)) ≡ counts rule next
 
 -- The registers before a question's first byte. The value is not looked at.
 abbrev pub started : List ℕ → ℕ → Value → Registers

@@ -6,16 +6,15 @@ use mathlib.Core.Option.{Option, none, some}
 use mathlib.Core.Path.{_≡_}
 use mathlib.Core.List.{List, [], _∷_}
 use Prim.Native.Nat.{ℕ, suc}
-use lib.Dec.{leb, ltb, eqb}
+use lib.Dec.{ltb, eqb}
 use lib.ListN.{length, take, drop, getD}
-use Rattle.saiga.specs.Limits.{depthLimit}
 use Rattle.saiga.specs.Values.{null, functionOf, ofBytes, ofWord, truth, nodeOf, apply}
 use Rattle.saiga.specs.declared.Value.{Value}
 use Rattle.saiga.specs.declared.Value.the-variants.{Unit as unit, Node as node, Function as function}
 use Rattle.saiga.specs.Expressions.{Expr, literal, Scope, Head, base-literal, function-literal, if-head, application-head, attribute-head, this-head, parameter-head, no-head, headOf, operandWidth, Reading, malformed, reads, readExpr}
 use Rattle.saiga.specs.Sheet.{Sheet, ruleScope, questionScope, Definition, undefined, figure, piece-of, definition}
 use Rattle.saiga.specs.Terms.{Occurrence, val, cond, app, attr, form, put}
-use Rattle.saiga.specs.Caching.{Entry, kept, write, Running, Counted, CondTrue, CondFalse, AppApp, AttrApp, Reason, null-node, spent, depth, State}
+use Rattle.saiga.specs.Caching.{Entry, kept, write, Running, Counted, CondTrue, CondFalse, AppApp, AttrApp, Reason, null-node, spent, depth, tooDeep, State}
 
 -- ---- States
 
@@ -138,7 +137,8 @@ module _ (s : Sheet) (capacity budget : ℕ) (m : Machine) where
   branch true fs = within CondTrue (counted evaluating (m .rest) (on-skip ∷ fs) (m .entries))
   branch false fs = within CondFalse (counted evaluating (passOver (scopeIn s (openForms fs)) (m .rest)) fs (m .entries))
 
-  -- AttrApp. A kept value, and a figure, are there at once: the form around them is written and gone.
+  -- AttrApp. A kept value, and a figure, are there at once: the form around them is written and gone, and there is no frame for it. So no more than
+  -- 64 forms have a frame.
   unfoldable pub defined : Occurrence → List Frame → Definition → Machine
   defined o fs undefined = counted (returning unit) (m .rest) fs (write capacity (m .entries) record { occurrence = o; value = unit })
   defined o fs (figure v) = counted (returning v) (m .rest) fs (write capacity (m .entries) record { occurrence = o; value = v })
@@ -152,7 +152,7 @@ module _ (s : Sheet) (capacity budget : ℕ) (m : Machine) where
   attributeDue o fs =
       Bool.cond (eqb (o .node) null) (stops null-node)
       (Bool.cond (ltb (m .steps) budget)
-      (Bool.cond (leb depthLimit (length (openForms fs))) (stops depth)
+      (Bool.cond (tooDeep (m .entries) (openForms fs) o) (stops depth)
       (takes (AttrApp (o .attribute)) (applied o fs (kept (m .entries) o))))
       (stops spent))
 

@@ -7,19 +7,18 @@ use lib.ListN.{length, getD}
 use Rattle.saiga.specs.Limits.{entryWidth}
 use Rattle.saiga.specs.Values.{Base, base}
 use Rattle.saiga.specs.declared.Value.{Value}
-use Rattle.saiga.specs.Sheet.{nodeCount, attributeCount, accepted, checkSheet}
-use Rattle.saiga.specs.Caching.{Reason}
+use Rattle.saiga.specs.Sheet.{nodeCount, accepted, checkSheet}
+use Rattle.saiga.specs.Caching.{Counted, Reason}
 use Rattle.saiga.specs.Ask.{reasonNumber}
 use Rattle.saiga.specs.Sound.{RunningIn}
 use Rattle.sheets.specs.Scan.{Indexed}
 use Rattle.values.specs.Packed.{valueIn, packedLimit}
 use Rattle.engine.specs.FrameWords.{kindOf, leftKind, nodeKind}
-use Rattle.engine.specs.Machine.{Machine, finishes, stops, move, stateOf}
+use Rattle.engine.specs.Machine.{Machine, finishes, takes, stops, move, Next, stateOf}
 use Rattle.engine.specs.Decode.{sheetOf, machineOf, Holds}
 use Rattle.engine.specs.Steps.{Memory, Stepped, goes, waits}
 use Rattle.engine.specs.declared.Registers.{Registers}
 use Rattle.engine.specs.Good.{Good, Small}
-use Rattle.engine.specs.Machine.{Next}
 
 -- the machine that registers and memory hold
 abbrev pub machineIn : List ℕ → List ℕ → Memory → Registers → Machine
@@ -43,7 +42,7 @@ module _ (sheet question : List ℕ) (capacity budget limit : ℕ) (m : Register
   abbrev pub Matches : Stepped → Type 0
   Matches (goes m′ mem′) =
       Next (sheetOf sheet) capacity budget M (machineIn sheet question mem′ m′) × HoldsIn sheet question mem′ m′ × (length (mem′ .store) / entryWidth ≡ capacity)
-  Matches waits = (limit ≤ m .steps) × (m .steps < budget)
+  Matches waits = (r : Counted) × (M′ : Machine) × (move (sheetOf sheet) capacity budget M ≡ takes r M′) × (limit ≤ m .steps) × (m .steps < budget)
   Matches Stepped.finishes = move (sheetOf sheet) capacity budget M ≡ finishes (m .value)
   Matches (Stepped.stops n) = (r : Reason) × (move (sheetOf sheet) capacity budget M ≡ stops r) × (reasonNumber r ≡ n)
 

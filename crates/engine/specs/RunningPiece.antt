@@ -1,7 +1,7 @@
 -- The running piece of bytes (document 01, "The sheet": "the running expression lies in the sheet or in the question").
 use mathlib.Core.List.{List}
 use Prim.Native.Nat.{ℕ, zero, suc, _-_}
-use lib.ListN.{length, take, drop}
+use lib.ListN.{take, drop}
 
 -- "At any moment the running expression lies in the sheet or in the question": in the question while no form is open.
 unfoldable pub pieceIn : List ℕ → List ℕ → ℕ → List ℕ

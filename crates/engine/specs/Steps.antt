@@ -116,9 +116,13 @@ takeIf skip mem m true =
 takeIf skip mem m false =
     goes record { returning = false; at = m .at + skip; end = m .end; frames = m .frames - 1; forms = m .forms; kept = m .kept; steps = m .steps + 1; value = m .value } mem
 
+-- a counted step that is due at the limit waits
+abbrev pub untilLimit : ℕ → Registers → Stepped → Stepped
+untilLimit limit m next = cond (leb limit (m .steps)) waits next
+
 -- the limits of a counted step other than AttrApp
 unfoldable pub within : ℕ → ℕ → Registers → Stepped → Stepped
-within budget limit m next = cond (leb budget (m .steps)) (stops 15) (cond (leb limit (m .steps)) waits next)
+within budget limit m next = cond (leb budget (m .steps)) (stops 15) (untilLimit limit m next)
 
 module _ (sheet index : List ℕ) where
   -- AttrApp of an occurrence that is not kept: its figure, or its rule inside a form
@@ -148,20 +152,19 @@ module _ (sheet index : List ℕ) where
       let w = cacheWrite (mem .store) (m .kept) (fieldsFor record { node = n; attribute = a; word = word } v) in
       goes (answered m (w .1) v) record { store = w .0; words = mem .words; forms = mem .forms }
 
-  -- AttrApp: a kept value before the definition
-  unfoldable pub takeKept : Memory → Registers → ℕ → ℕ → Option ℕ → Stepped
-  takeKept mem m n a none =
-      openFigure mem m n a (toWord (m .value)) (indexed (getD index (figurePlace n a) 0) (figureAt sheet a))
-  takeKept mem m n a (some j) =
-      goes (answered m (m .kept) (ofWord (baseOf (resultAt sheet a)) (valueWord (mem .store) j))) mem
+  -- AttrApp: a kept value before the definition, for which depth is tested. Depth that is due at the limit stops the run there.
+  unfoldable pub takeKept : ℕ → Memory → Registers → ℕ → ℕ → Option ℕ → Stepped
+  takeKept limit mem m n a none =
+      cond (leb depthLimit (m .forms)) (stops 16)
+      (untilLimit limit m (openFigure mem m n a (toWord (m .value)) (indexed (getD index (figurePlace n a) 0) (figureAt sheet a))))
+  takeKept limit mem m n a (some j) =
+      untilLimit limit m (goes (answered m (m .kept) (ofWord (baseOf (resultAt sheet a)) (valueWord (mem .store) j))) mem)
 
   unfoldable pub attributeDue : ℕ → ℕ → Memory → Registers → ℕ → ℕ → Stepped
   attributeDue budget limit mem m n a =
       cond (eqb n null) (stops 14)
       (cond (leb budget (m .steps)) (stops 15)
-      (cond (leb depthLimit (m .forms)) (stops 16)
-      (cond (leb limit (m .steps)) waits
-      (takeKept mem m n a (findKey (mem .store) (m .kept) record { node = n; attribute = a; word = toWord (m .value) })))))
+      (takeKept limit mem m n a (findKey (mem .store) (m .kept) record { node = n; attribute = a; word = toWord (m .value) })))
 
   -- The value goes to the innermost frame, whose word is `w`. `skip` is the width of the expression at the front of the rest, and `packed`
   -- the value in a word.

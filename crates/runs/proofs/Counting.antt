@@ -6,13 +6,13 @@ use mathlib.Core.Path.{_≡_}
 use Prim.Native.Nat.{ℕ, _%_, _≤_, _<_}
 use native.Mathlib.Omega.{arith}
 use lib.Dec.{leb, eqb}
-use borrow.Author.Tests.{leb-false}
 use Rattle.saiga.specs.Values.{null, truth}
 use Rattle.saiga.specs.declared.Value.{Value}
 use Rattle.saiga.specs.Expressions.{Head, base-literal, function-literal, if-head, application-head, attribute-head, this-head, parameter-head, no-head, headOf}
 use Rattle.engine.specs.declared.Registers.{Registers}
 use Rattle.engine.specs.Steps.{Memory, Stepped, goes, waits, finishes, stops, readHead, takeIf, within, closeForm, openRule, openFigure, takeKept, attributeDue, give, readNext, stepOf}
 use Rattle.saiga.proofs.Preservation.{either}
+use Rattle.engine.proofs.Limited.{until-holds, within-holds}
 
 module _ (sheet index : List ℕ) (limit : ℕ) (mem : Memory) (m : Registers) where
   -- the count stays within the limit
@@ -38,12 +38,6 @@ module _ (sheet index : List ℕ) (limit : ℕ) (mem : Memory) (m : Registers) w
   reading-counts [] = tt
   reading-counts (c ∷ l) = head-counts (headOf c) l
 
-  within-counts : (budget : ℕ) (next : Stepped) → (m .steps < limit → Counts next) → Counts (within budget limit m next)
-  unfolding within
-  within-counts budget next h =
-      either Counts (leb budget (m .steps)) {x = stops 15} (λ _. tt)
-      (λ _. either Counts (leb limit (m .steps)) {x = waits} (λ _. tt) (λ before. h (leb-false _ _ before)))
-
   if-counts : m .steps < limit → (skip : ℕ) (b : Bool) → Counts (takeIf skip mem m b)
   unfolding takeIf
   if-counts before skip true = λ h. omega arith
@@ -54,26 +48,26 @@ module _ (sheet index : List ℕ) (limit : ℕ) (mem : Memory) (m : Registers) w
   figure-counts before n a word none = λ h. omega arith
   figure-counts before n a word (some v) = λ h. omega arith
 
-  kept-counts : m .steps < limit → (n a : ℕ) (f : Option ℕ) → Counts (takeKept sheet index mem m n a f)
+  kept-counts : (n a : ℕ) (f : Option ℕ) → Counts (takeKept sheet index limit mem m n a f)
   unfolding takeKept
-  kept-counts before n a none = figure-counts before n a _ _
-  kept-counts before n a (some j) = λ h. omega arith
+  kept-counts n a none =
+      either Counts (leb 64 (m .forms)) {x = stops 16} (λ _. tt) (λ _. until-holds Counts limit m _ (λ _. tt) (λ before. figure-counts before n a _ _))
+  kept-counts n a (some j) = until-holds Counts limit m _ (λ _. tt) (λ before h. omega arith)
 
   attribute-counts : (budget n a : ℕ) → Counts (attributeDue sheet index budget limit mem m n a)
   unfolding attributeDue
   attribute-counts budget n a =
       either Counts (eqb n null) {x = stops 14} (λ _. tt) λ _.
       either Counts (leb budget (m .steps)) {x = stops 15} (λ _. tt) λ _.
-      either Counts (leb 64 (m .forms)) {x = stops 16} (λ _. tt) λ _.
-      either Counts (leb limit (m .steps)) {x = waits} (λ _. tt) λ before. kept-counts (leb-false _ _ before) n a _
+      kept-counts n a _
 
   give-counts : (budget skip packed w : ℕ) → Counts (give sheet index budget limit skip packed mem m w)
   unfolding give closeForm
   give-counts budget skip packed w =
-      either Counts (eqb (w % 8) 0) (λ _. within-counts budget _ (λ before. if-counts before skip (truth (m .value)))) λ _.
+      either Counts (eqb (w % 8) 0) (λ _. within-holds Counts limit m _ budget (λ _. tt) (λ _ _. tt) (λ _ before. if-counts before skip (truth (m .value)))) λ _.
       either Counts (eqb (w % 8) 1) (λ _ h. h) λ _.
       either Counts (eqb (w % 8) 2) (λ _ h. h) λ _.
-      either Counts (eqb (w % 8) 3) (λ _. within-counts budget _ (λ before h. omega arith)) λ _.
+      either Counts (eqb (w % 8) 3) (λ _. within-holds Counts limit m _ budget (λ _. tt) (λ _ _. tt) (λ _ before h. omega arith)) λ _.
       either Counts (eqb (w % 8) 4) (λ _ h. h) λ _.
       either Counts (eqb (w % 8) 6) (λ _ h. h) λ _.
       attribute-counts budget _ _

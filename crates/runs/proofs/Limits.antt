@@ -1,14 +1,13 @@
 -- The limits of a counted step, in the order of their numbers.
 use mathlib.Core.Path.{_≡_, refl}
 use Prim.Native.Nat.{ℕ, _≤_, _<_}
-use lib.Dec.{leb}
 use borrow.Author.Tests.{le-leb, lt-leb}
 use Rattle.engine.specs.declared.Registers.{Registers}
 use Rattle.engine.specs.Steps.{Memory, Stepped, waits, stops, within}
-use Rattle.saiga.proofs.Preservation.{either}
 use Rattle.engine.specs.declared.Step.{Step}
 use Rattle.engine.specs.declared.Step.the-variants.{Goes, Waits, Finishes, Stops}
 use Rattle.engine.specs.CodeSteps.{steppedOf, keptAfter, keptIn}
+use Rattle.engine.proofs.Limited.{within-holds}
 
 module _ (budget limit : ℕ) (m : Registers) (next : Stepped) where
   pub within-spent : budget ≤ m .steps → stops 15 ≡ within budget limit m next
@@ -25,10 +24,7 @@ module _ (budget limit : ℕ) (m : Registers) (next : Stepped) where
 
   -- they keep what the step keeps
   pub within-keeps : {kept : ℕ} → keptIn kept next ≡ kept → keptIn kept (within budget limit m next) ≡ kept
-  unfolding within
-  within-keeps {kept} keeps =
-      either (λ st. keptIn kept st ≡ kept) (leb budget (m .steps)) {x = stops 15} (λ _. refl)
-      (λ _. either (λ st. keptIn kept st ≡ kept) (leb limit (m .steps)) {x = waits} (λ _. refl) (λ _. keeps))
+  within-keeps {kept} keeps = within-holds (λ st. keptIn kept st ≡ kept) limit m next budget (λ _. refl) (λ _ _. refl) (λ _ _. keeps)
 
 -- The kept number after a move is that of what it comes to.
 pub kept-by : (r : Step) (mem : Memory) (m : Registers) → keptAfter r m ≡ keptIn (m .kept) (steppedOf r mem)

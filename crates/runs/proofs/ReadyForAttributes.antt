@@ -2,7 +2,7 @@
 use mathlib.Core.Bool.{true, false≢true}
 use mathlib.Core.List.{List}
 use mathlib.Core.Option.{some}
-use mathlib.Core.Path.{_≡_, refl, sym, _∙_}
+use mathlib.Core.Path.{_≡_, sym, _∙_}
 use Prim.Native.Nat.{ℕ, zero, suc, _+_, _-_, _^_, _≤_, _<_}
 use native.Mathlib.Omega.{arith}
 use lib.ListN.{length, getD}
@@ -112,7 +112,7 @@ module _ (sheet index notes question store links run : List ℕ) (budget limit :
       record { writes = write-ready (given .ready); framed = given .some; node = ready .node; word-small = ready .word-small }
 
   -- AttrApp, with the node and the attribute that the innermost frame's word holds
-  module _ (left : m .steps < budget) (few : m .forms < 64) where
+  module _ (left : m .steps < budget) where
     abbrev word : ℕ
     word = getD (wordsIn run) (m .frames - 1) 0
 
@@ -129,22 +129,22 @@ module _ (sheet index notes question store links run : List ℕ) (budget limit :
         let gives = given .gives in
         let some = given .some in
         let no-null-is = ne-eqb n 65535 no-null in
-        let o-in = due-in r gives some (by-key decoded) late no-form _ budget 0 refl no-null-is left few in
+        let o-in = due-in r gives some (by-key decoded) late no-form no-null-is in
         record {
           pair = record { sheet = decoded; known = r .index-of; node = o-in .node-declared; attribute = o-in .attribute-declared };
           defined = λ no-figure no-rule. false≢true
-              (rw (definition-at r gives some (by-key decoded) late no-form _ budget 0 refl no-null-is left few, no-figure, no-rule)
+              (rw (definition-at r gives some (by-key decoded) late no-form no-null-is, no-figure, no-rule)
               at (pair-defined sheet decoded (r .accepts) n a (o-in .node-declared) (o-in .attribute-declared)));
           kept-word = λ j found. word-more _ _ (r .index-of .described .nodes-bound)
-              (rw (attribute-is r gives some (by-key decoded) late no-form _ budget 0 refl no-null-is left few)
+              (rw (attribute-is r gives some (by-key decoded) late no-form no-null-is)
               at (kept-word decoded store (m .kept) _ (r .holds .stored) record { node = n; attribute = a; parameter = m .value } o-in j found));
           writes = write-ready (given .ready);
-          form = record { frame = framed; few = few; counts = omega (arith, given .permitted) };
+          step = record { frame = framed; counts = omega (arith, given .permitted) };
         }
 
-  pub attribute-ready : OtherKind k → (nodeOf (valueIn (heldNode w)) ≡ 65535 → ⊥) → m .steps < budget → m .forms < 64
+  pub attribute-ready : OtherKind k → (nodeOf (valueIn (heldNode w)) ≡ 65535 → ⊥) → m .steps < budget
       → AttributeReady sheet index store links run m (nodeOf (valueIn (heldNode w))) (heldAttribute w)
-  attribute-ready other no-null left few =
+  attribute-ready other no-null left =
       let late : 5 ≤ kindOf w = rw (given .kind) at (late-kind other) in
       let no-form : kindOf w ≡ 6 → ⊥ = rw (given .kind) at (other .1) in
-      rw is (due-ready left few (rw is at late) (rw is at no-form) (rw is at no-null))
+      rw is (due-ready left (rw is at late) (rw is at no-form) (rw is at no-null))

@@ -107,8 +107,15 @@ module _ (sheet index notes question : List ℕ) (budget limit : ℕ) where
         unfolding steppedOf
         round-pauses is =
             let same : mem′ ≡ mem = rw is at (steps .still) in
-            let (reached, left) = invariant-waits now-holds limit (steps .skip) (steps .packed) (steps .width) (steps .packs) (came is) in
-            (rw same now-holds, rw same (round .running .tracks), reached, left, λ h. let below = round .counted h in omega arith)
+            let (due, reached, left) = invariant-waits now-holds limit (steps .skip) (steps .packed) (steps .width) (steps .packs) (came is) in
+            record {
+              invariant = rw same now-holds;
+              tracks = rw same (round .running .tracks);
+              due = rw same due;
+              left = left;
+              reached = reached;
+              counted = λ h. let below = round .counted h in omega arith;
+            }
 
         pub round-finishes : r ≡ Finishes → RunsTo sheet index notes question budget limit lent kept whole (first .steps) mem′ (End.Finishes m)
         unfolding steppedOf

@@ -2,9 +2,9 @@
 -- move to move (Loop.antt there).
 use mathlib.Core.List.{List}
 use mathlib.Core.Path.{_≡_}
-use Prim.Native.Nat.{ℕ, suc, _≤_, _<_}
+use Prim.Native.Nat.{ℕ, suc, _/_, _≤_, _<_}
 use lib.ListN.{length}
-use Rattle.saiga.specs.Limits.{expressionLimit, budgetLimit}
+use Rattle.saiga.specs.Limits.{entryWidth, expressionLimit, budgetLimit}
 use Rattle.saiga.specs.Caching.{with-value, Reason, by, Ended}
 use Rattle.saiga.specs.Ask.{reasonNumber}
 use Rattle.expressions.specs.Noted.{WidthOf}
@@ -14,7 +14,7 @@ use Rattle.engine.specs.declared.Registers.{Registers}
 use Rattle.engine.specs.Steps.{Memory, give, stepOf}
 use Rattle.engine.specs.Represents.{Represents, PacksIn}
 use Rattle.engine.specs.Ready.{memoryOf}
-use Rattle.engine.specs.Loop.{Invariant, Final}
+use Rattle.engine.specs.Loop.{Invariant, StepDue, Final}
 use Rattle.engine.specs.Tracks.{Tracks}
 use Rattle.engine.specs.declared.Step.{Step}
 use Rattle.engine.specs.declared.Step.the-variants.{Goes}
@@ -78,12 +78,19 @@ keptBy (Pauses m) = m .kept
 keptBy (Finishes m) = m .kept
 keptBy (Stops number m) = m .kept
 
--- A run that ends so, of a call that was lent these bytes with so many kept entries, leaves off: paused with a counted step due, at the limit
--- unless it was past it at first; with its value; or with the number of its reason.
+-- A run that ends so, of a call that was lent these bytes with so many kept entries, leaves off: paused, with its value, or with the number of its
+-- reason.
 module _ (sheet index notes question : List ℕ) (budget limit : ℕ) (lent : List ℕ) (kept : ℕ) (whole : Ended) (first : ℕ) (mem : Memory) where
+  -- It pauses before a counted step that is due, at the limit unless it was past it at first, and can go on. A stop that is due there is given there.
+  pub record Paused (m : Registers) : Type 0 where
+    pub invariant : Invariant sheet index question budget lent kept whole mem m
+    pub tracks : Tracks sheet index notes mem m
+    pub due : StepDue sheet question (length lent / entryWidth) budget mem m
+    pub left : m .steps < budget
+    pub reached : limit ≤ m .steps
+    pub counted : first ≤ limit → m .steps ≡ limit
+
   abbrev pub RunsTo : RunEnd → Type 0
-  RunsTo (Pauses m) =
-      Invariant sheet index question budget lent kept whole mem m × Tracks sheet index notes mem m × (limit ≤ m .steps) × (m .steps < budget)
-      × (first ≤ limit → m .steps ≡ limit)
+  RunsTo (Pauses m) = Paused m
   RunsTo (Finishes m) = Final lent kept whole (with-value (m .value)) mem m
   RunsTo (Stops number m) = (reason : Reason) × (reasonNumber reason ≡ number) × Final lent kept whole (by reason) mem m

@@ -5,15 +5,13 @@ use mathlib.Core.Option.{Option, none, some, Option·getD}
 use mathlib.Core.List.{List, _∷_}
 use mathlib.Core.Path.{_≡_, refl, sym, _∙_, ap}
 use Prim.Native.Nat.{ℕ, zero, suc, _+_}
-use lib.Dec.{eqb, leb}
-use lib.ListN.{length}
+use lib.Dec.{eqb}
 use native.Mathlib.Nat.{zero-add, suc-add}
-use Rattle.saiga.specs.Limits.{depthLimit}
 use Rattle.saiga.specs.Values.{Value, null, truth, nodeOf, apply}
 use Rattle.saiga.specs.Expressions.{Expr, literal, if, application, attribute, this, parameter}
 use Rattle.saiga.specs.Terms.{Occurrence, Term, val, cond, app, attr, form, put}
 use Rattle.saiga.specs.Plain.{Plain, steps-to, on-null, stepPart, plainAttribute, plainStep, plainAt}
-use Rattle.saiga.specs.Caching.{Entry, Running, kept, Due, finished, counts, writes, halts, Counted, AppApp, AttrApp, null-node, spent, depth, duePart, count, attrApp, keptOr, due}
+use Rattle.saiga.specs.Caching.{Entry, Running, kept, Due, finished, counts, writes, halts, Counted, AppApp, AttrApp, null-node, spent, depth, duePart, count, tooDeep, attrApp, keptOr, due}
 use Rattle.saiga.proofs.PlainFacts.{stepped}
 
 -- the forms removed
@@ -180,7 +178,7 @@ module _ (context : ℕ → ℕ → Expr) where
     seen-attr : (os : List Occurrence) (v : Value) (a : ℕ) (w : Value)
         → SeenAs (attr (val v) a (val w)) (attrApp context s b os record { node = nodeOf v; attribute = a; parameter = w })
     unfolding attrApp plainStep stepPart plainAttribute erase
-    seen-attr os v a w = go (eqb (nodeOf v) null) refl b (leb depthLimit (length os))
+    seen-attr os v a w = go (eqb (nodeOf v) null) refl b (tooDeep s os o)
       where
         o : Occurrence
         o = record { node = nodeOf v; attribute = a; parameter = w }

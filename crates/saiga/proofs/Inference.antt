@@ -12,7 +12,7 @@ use Rattle.saiga.specs.Types.{Attribute, attributeAt, Typed, literal∈,
 
 -- ---- The test of types
 
-base-of-code : (B : Base) → baseOf (baseCode B) ≡ B
+pub base-of-code : (B : Base) → baseOf (baseCode B) ≡ B
 unfolding baseOf
 base-of-code unitT = refl
 base-of-code boolT = refl

@@ -1,5 +1,5 @@
 -- A larger store brings the same ending in no more steps (document 01, demand 3, part (c)).
-use mathlib.Core.Bool.{Bool, true, false}
+use mathlib.Core.Bool.{Bool, true, false, _&&_}
 use mathlib.Core.Bool as Bool
 use mathlib.Core.Logic.{_⊎_, inl, inr}
 use mathlib.Core.Option.{Option, none, some}
@@ -9,16 +9,17 @@ use Prim.Native.Nat.{ℕ, suc, _≤_}
 use native.Mathlib.Omega.{arith}
 use lib.Dec.{leb, ltb, eqb}
 use lib.ListN.{length}
-use borrow.Author.Tests.{leb-true, leb-false, lt-leb, ltb-true, lt-ltb}
+use borrow.Author.Tests.{leb-true, leb-false, ltb-true, lt-ltb}
 use Rattle.saiga.specs.Limits.{depthLimit}
 use Rattle.saiga.specs.Values.{Value, null, nodeOf}
 use Rattle.saiga.specs.Expressions.{Expr}
 use Rattle.saiga.specs.Terms.{Occurrence, val, cond, app, attr, form, put}
 use Rattle.saiga.specs.Plain.{plainStep, is-value, on-null}
-use Rattle.saiga.specs.Caching.{Entry, Running, kept, write, Counted, AttrApp, null-node, spent, depth, Due, finished, counts, writes, halts, duePart, count, keptOr, attrApp, due, State, Ending, with-value, by, Ended, dueAt}
+use Rattle.saiga.specs.Caching.{Entry, Running, kept, isKept, write, Counted, AttrApp, null-node, spent, depth, Due, finished, counts, writes, halts, duePart, count, keptOr, tooDeep, attrApp, due, State, Ending, with-value, by, Ended, dueAt}
 use Rattle.saiga.specs.Runs.{Runs, ends-value, ends-by, goes-counted, goes-writing}
 use Rattle.saiga.proofs.Erasure.{erase, Yields, Right, Faithful, Seen, seen}
 use Rattle.saiga.proofs.PlainFacts.{final-value, final-null, one-end, one-value}
+use Rattle.saiga.proofs.Depth.{not-deep-kept, not-deep-few}
 use Rattle.saiga.proofs.Keeping.{write-kept, write-full, write-alike, kept-write, kept-run, right-write, seen-at}
 
 -- ---- The relations
@@ -32,6 +33,17 @@ Contained s S = (o : Occurrence) (v : Value) → kept s o ≡ some v → kept S 
 pub data Nested (C : ℕ) (s S : List Entry) : Type 0 where
   alike : s ≡ S → Nested C s S
   frozen : C ≤ length s → Contained s S → Nested C s S
+
+-- Where the smaller store has AttrApp go on inside so many forms, so has the larger inside as many or fewer: what is kept in the one is kept in the
+-- other.
+not-deeper : (s S : List Entry) → Contained s S → (os os′ : List Occurrence) → length os′ ≤ length os → (o : Occurrence)
+    → tooDeep s os o ≡ false → tooDeep S os′ o ≡ false
+unfolding tooDeep isKept
+not-deeper s S within os os′ fewer o = go (kept s o) refl
+  where
+    go : (k : Option Value) → kept s o ≡ k → (Bool.not (isKept k) && leb depthLimit (length os)) ≡ false → tooDeep S os′ o ≡ false
+    go none k shallow = not-deep-few S os′ o (omega (arith, leb-false depthLimit (length os) shallow))
+    go (some v) k shallow = not-deep-kept S os′ o (within o v k)
 
 -- The second ending is the first's, with no more steps, where the first is a value or null.
 abbrev pub BringsIn : Ending → ℕ → Ended → Type 0
@@ -179,18 +191,17 @@ module _ (context : ℕ → ℕ → Expr) (s S : List Entry) (within : Contained
       lands (some v) e = rw (e, within o v e) (at-once (ahead-refl S (form o (val v))))
 
       -- the tests of attrApp, one after the other
-      by-depth : (d : Bool) → leb depthLimit (length os) ≡ d → eqb (nodeOf n) null ≡ false → B ≡ true
+      by-depth : (d : Bool) → tooDeep s os o ≡ d → eqb (nodeOf n) null ≡ false → B ≡ true
           → Follows context S B os′ (attr (val n) a (val w)) (Bool.cond d (halts depth) (counts (AttrApp a) (opened s)))
       by-depth true e no-null budget = tt
       by-depth false e no-null budget =
-          let shallow : leb depthLimit (length os′) ≡ false = lt-leb depthLimit (length os′) (omega (arith, leb-false depthLimit (length os) e)) in
-          inr (opened S, rw (no-null, budget, shallow), lands (kept s o) refl)
+          inr (opened S, rw (no-null, budget, not-deeper s S within os os′ fewer o e), lands (kept s o) refl)
 
       deep : Due
-      deep = Bool.cond (leb depthLimit (length os)) (halts depth) (counts (AttrApp a) (opened s))
+      deep = Bool.cond (tooDeep s os o) (halts depth) (counts (AttrApp a) (opened s))
 
       by-budget : (c : Bool) → b ≡ c → eqb (nodeOf n) null ≡ false → Follows context S B os′ (attr (val n) a (val w)) (Bool.cond c deep (halts spent))
-      by-budget true e no-null = by-depth (leb depthLimit (length os)) refl no-null (budgets e)
+      by-budget true e no-null = by-depth (tooDeep s os o) refl no-null (budgets e)
       by-budget false e no-null = tt
 
       by-null : (z : Bool) → eqb (nodeOf n) null ≡ z

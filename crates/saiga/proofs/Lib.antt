@@ -13,6 +13,7 @@ pub mod PlainFacts
 pub mod Erasure
 pub mod RunEnds
 pub mod Keeping
+pub mod Depth
 pub mod Larger
 pub mod Preservation
 pub mod Entries

@@ -10,4 +10,4 @@ plain-parts = ((_, _, refl, refl, (_, refl, refl)), (_, _, refl, refl, (_, refl,
 
 pub misreadings : Misreadings
 unfolding definitions Misreadings
-misreadings = (refl, refl, refl, plain-parts)
+misreadings = (refl, refl, refl, refl, plain-parts)

@@ -10,13 +10,12 @@ use lib.Dec.{eqb, ltb, leb}
 use lib.ListN.{length}
 use native.Mathlib.Omega.{arith}
 use borrow.Author.Tests.{ltb-true, lt-ltb}
-use Rattle.saiga.specs.Limits.{depthLimit}
 use Rattle.saiga.specs.Values.{Base, nodeT, Ty, base, _⇒_, Value, unit, bool, int, node, function, holding, Function, le, equalInt, equalNode, negation, add, subtract, Holding, leOf, equalIntOf, equalNodeOf, addTo, subtractFrom, functionType, holdingType, typeOf, null, truth, nodeOf, applyFunction, applyHolding, apply, isWord, ofWord, toWord}
 use Rattle.saiga.specs.Expressions.{Expr, Scope}
 use Rattle.saiga.specs.Types.{Attribute, attributeAt}
 use Rattle.saiga.specs.Terms.{Occurrence, put}
 use Rattle.saiga.specs.Plain.{Plain, PlainStep, is-value, steps-to, on-null, stepPart, plainAttribute, plainStep, plainAt}
-use Rattle.saiga.specs.Caching.{Entry, sameOccurrence, kept, isKept, write, Running, Counted, AppApp, Reason, null-node, spent, depth, Due, finished, counts, writes, halts, duePart, count, keptOr, attrApp, due, State, with-value, by, Ended, dueAt, run}
+use Rattle.saiga.specs.Caching.{Entry, sameOccurrence, kept, isKept, write, Running, Counted, AppApp, Reason, null-node, spent, depth, Due, finished, counts, writes, halts, duePart, count, keptOr, tooDeep, attrApp, due, State, with-value, by, Ended, dueAt, run}
 use Rattle.saiga.specs.Runs.{Reaches, at-first, by-counted, by-writing}
 use Rattle.saiga.specs.Sound.{IsA, ValueIn, ExprIn, literal∈, if∈, application∈, attribute∈, this∈, parameter∈, OccurrenceIn, EntryIn, All, all-none, all-cons, TermIn, PlainIn, RunningIn, val∈, cond∈, app∈, attr∈, form∈, ContextIn}
 use Rattle.saiga.proofs.FourBytes.{held-in, bool-in}
@@ -216,7 +215,7 @@ module _ (nodes : ℕ) (sig : List Attribute) where
     attrApp-in os v a x ha hv hx =
         either D (eqb (nodeOf v) null) {x = halts null-node} (λ _. tt)
         (λ q. either D b {y = halts spent}
-        (λ _. either D (leb depthLimit (length os)) {x = halts depth} (λ _. tt)
+        (λ _. either D (tooDeep s os _) {x = halts depth} (λ _. tt)
         (λ _. let o = due-occurrence nodes sig v a x ha hv hx q in form∈ (o, refl) (keptOr-in _ o _ refl)))
         (λ _. tt))
       where

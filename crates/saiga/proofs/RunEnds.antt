@@ -9,13 +9,11 @@ use native.Mathlib.Nat.{le-of-eq}
 use native.Mathlib.Numerals.{add-one}
 use native.Mathlib.Omega.{arith}
 use borrow.Author.Tests.{ltb-true, ltb-false}
-use lib.Dec.{ltb, leb, eqb}
-use lib.ListN.{length}
-use Rattle.saiga.specs.Limits.{depthLimit}
+use lib.Dec.{ltb, eqb}
 use Rattle.saiga.specs.Values.{Value, null, truth}
 use Rattle.saiga.specs.Expressions.{Expr, literal, if, application, attribute, this, parameter}
 use Rattle.saiga.specs.Terms.{Occurrence, val, cond, app, attr, form, put}
-use Rattle.saiga.specs.Caching.{Entry, Running, kept, keptOr, write, Due, finished, counts, writes, halts, Counted, AttrApp, Reason, null-node, spent, depth, duePart, count, attrApp, due, State, Ended, dueAt, run}
+use Rattle.saiga.specs.Caching.{Entry, Running, kept, keptOr, write, Due, finished, counts, writes, halts, Counted, AttrApp, Reason, null-node, spent, depth, duePart, count, tooDeep, attrApp, due, State, Ended, dueAt, run}
 use Rattle.saiga.specs.Runs.{Runs, ends-value, ends-by, goes-counted, goes-writing}
 
 -- ---- What falls
@@ -92,7 +90,7 @@ one-left n = omega arith
 module _ (context : ℕ → ℕ → Expr) (s : List Entry) (b : Bool) where
   falls-attr : (os : List Occurrence) (o : Occurrence) (n : ℕ) → Falls b n (attrApp context s b os o)
   unfolding attrApp forms
-  falls-attr os o n = go (eqb (o .node) null) b refl (leb depthLimit (length os))
+  falls-attr os o n = go (eqb (o .node) null) b refl (tooDeep s os o)
     where
       t : Running
       t = form o (keptOr (kept s o) (put (o .node) (o .parameter) (context (o .node) (o .attribute))))

@@ -77,14 +77,19 @@ unfoldable pub keptOr : Option Value → Running → Running
 keptOr none t = t
 keptOr (some v) t = val v
 
+-- "16 depth: AttrApp due inside 64 open forms, repeats counted", as F-8 of document 02 changes it: "only when the occurrence due is not kept".
+-- `open-forms` are the forms that stand around the part where AttrApp is due.
+unfoldable pub tooDeep : List Entry → List Occurrence → Occurrence → Bool
+tooDeep s open-forms o = Bool.not (isKept (kept s o)) && leb depthLimit (length open-forms)
+
 module _ (context : ℕ → ℕ → Expr) (s : List Entry) (has-budget : Bool) where
-  -- "Where several of 14 to 16 are due, the smallest": null, then spent, then depth, which is "AttrApp due inside 64 open forms,
-  -- repeats counted, whether or not the occurrence due is kept". `open-forms` are the forms that stand around this part.
+  -- "Where several of 14 to 16 are due, the smallest": null, then spent, then depth. A kept value has its form too, the 65th inside 64 open
+  -- ones; CacheWrite is due there at once and ends it.
   unfoldable pub attrApp : List Occurrence → Occurrence → Due
   attrApp open-forms o =
       Bool.cond (eqb (o .node) null) (halts null-node)
       (Bool.cond has-budget
-      (Bool.cond (leb depthLimit (length open-forms)) (halts depth)
+      (Bool.cond (tooDeep s open-forms o) (halts depth)
       (counts (AttrApp (o .attribute)) (form o (keptOr (kept s o) (put (o .node) (o .parameter) (context (o .node) (o .attribute)))))))
       (halts spent))
 

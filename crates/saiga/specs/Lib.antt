@@ -8,6 +8,7 @@ pub mod Sheet
 pub mod Terms
 pub mod Plain
 pub mod Caching
+pub mod Depth
 pub mod Runs
 pub mod Sound
 pub mod Store

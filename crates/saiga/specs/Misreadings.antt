@@ -57,33 +57,55 @@ sheetDown =
 abbrev pub down : ℕ → ℕ → List ℕ
 down n k = attribute-of 0 (node-literal n) (whole k)
 
--- One attribute, sum, Int with Int parameter, and one node: sum is IF le(the parameter)(0) THEN 0 ELSE add(1)(sum of this node with
--- subtract(the parameter)(1)). So a parameter above 0 takes 7 steps to the next AttrApp (AttrApp, two AppApp, CondFalse, three AppApp) and
--- one AppApp after its value, and 0 takes 4.
-abbrev pub sheetSum : List ℕ
-sheetSum =
+-- Attributes 0 to 3, Int with Int parameter, and last (4), Int. Nodes 0 and 1 of kind 0. Figure: last of node 0 is 9. Rules: last is 9; attributes 0 to 2
+-- are the next of this node with the parameter; attribute 3 is IF le(the parameter)(1) THEN add(last)(last) ELSE attribute 0 of this node with
+-- subtract(the parameter)(1). So attribute 0 of k has last due inside 4 × k forms, after 9 × k - 2 steps, and attribute 1 inside a form less, a step before.
+abbrev pub sheetFall : List ℕ
+sheetFall =
     0x41 ∷ 2 ∷ 2 ∷
+    0x41 ∷ 2 ∷ 2 ∷
+    0x41 ∷ 2 ∷ 2 ∷
+    0x41 ∷ 2 ∷ 2 ∷
+    0x41 ∷ 2 ∷ 0 ∷
     0x4E ∷ 0 ∷
-    rule-for 0 0 (unless-positive (whole 0) (two 4 (whole 1) (attribute-of 0 this-node one-less)))
+    0x4E ∷ 0 ∷
+    0x56 ∷ 0 ∷ 0 ∷ 4 ∷ 9 ∷ 0 ∷ 0 ∷ 0 ∷
+    rule-for 0 4 (whole 9)
+    ++ rule-for 0 0 (attribute-of 1 this-node the-parameter)
+    ++ rule-for 0 1 (attribute-of 2 this-node the-parameter)
+    ++ rule-for 0 2 (attribute-of 3 this-node the-parameter)
+    ++ rule-for 0 3
+    (if-then-else (two 0 the-parameter (whole 1))
+    (two 4 (attribute-of 4 this-node unit-literal) (attribute-of 4 this-node unit-literal))
+    (attribute-of 0 this-node one-less))
     ++ 0x5A ∷ []
 
-abbrev pub sum : ℕ → List ℕ
-sum k = attribute-of 0 (node-literal 0) (whole k)
+-- last of a node inside 63 forms and inside 64, and by itself
+abbrev pub inside63 : ℕ → List ℕ
+inside63 n = attribute-of 1 (node-literal n) (whole 16)
 
--- Attributes that are each due again inside themselves, of one node, all with Unit parameter but the last: any (0, Bool) is
--- IF any THEN true ELSE false; more (1, Int) is add(more)(1); above (2, Node) is above of above; and fed (3, Int with Int parameter) is
--- fed(fed(the parameter)). AttrApp leads to the next AttrApp in one step.
+abbrev pub inside64 : ℕ → List ℕ
+inside64 n = attribute-of 0 (node-literal n) (whole 16)
+
+abbrev pub last : ℕ → List ℕ
+last n = attribute-of 4 (node-literal n) unit-literal
+
+-- Attributes that are each due again inside themselves, of one node, all with Unit parameter but fed: any (0, Bool) is
+-- IF any THEN true ELSE false; more (1, Int) is add(more)(1); above (2, Node) is above of above; fed (3, Int with Int parameter) is
+-- fed(fed(the parameter)); and rest (4, Int) is add(1)(rest). AttrApp leads to the next AttrApp in one step, of rest in two.
 abbrev pub sheetInside : List ℕ
 sheetInside =
     0x41 ∷ 1 ∷ 0 ∷
     0x41 ∷ 2 ∷ 0 ∷
     0x41 ∷ 3 ∷ 0 ∷
     0x41 ∷ 2 ∷ 2 ∷
+    0x41 ∷ 2 ∷ 0 ∷
     0x4E ∷ 0 ∷
     rule-for 0 0 (if-then-else (attribute-of 0 this-node unit-literal) true-literal false-literal)
     ++ rule-for 0 1 (two 4 (attribute-of 1 this-node unit-literal) (whole 1))
     ++ rule-for 0 2 (attribute-of 2 (attribute-of 2 this-node unit-literal) unit-literal)
     ++ rule-for 0 3 (attribute-of 3 this-node (attribute-of 3 this-node the-parameter))
+    ++ rule-for 0 4 (two 4 (whole 1) (attribute-of 4 this-node unit-literal))
     ++ 0x5A ∷ []
 
 -- such an attribute of the node, with a parameter
@@ -108,9 +130,10 @@ runs =
     -- A full store drops nothing, and CacheWrite then changes nothing.
     row sheetP 1 (asking (next (whole 3)) 1000000 ∷ asking (next (whole 4)) 1000000 ∷ asking (next (whole 4)) 1000000 ∷ asking (next (whole 3)) 1000000 ∷ [])
     (an-int (pos 4) 3 1 ∷ an-int (pos 5) 3 1 ∷ an-int (pos 5) 3 1 ∷ an-int (pos 4) 1 1 ∷ []) ∷
-    -- Depth: down(0) is kept and due inside the 64 forms of down(64) to down(1), after 64 × 6 steps. Inside 63, after 63 × 6, it is taken.
-    row sheetDown 1 (asking (down 0 0) 1000000 ∷ asking (down 0 64) 1000000 ∷ asking (down 0 63) 1000000 ∷ [])
-    (an-int (pos 0) 4 1 ∷ stop 16 384 1 ∷ an-int (pos 0) 379 1 ∷ []) ∷
+    -- A kept figure needs no depth: down(0) is kept and due inside the 64 forms of down(64) to down(1), after 64 × 6 steps. Down(65) comes to the
+    -- 64 forms of down(65) to down(2), and down(1) is not kept.
+    row sheetDown 1 (asking (down 0 0) 1000000 ∷ asking (down 0 64) 1000000 ∷ asking (down 0 65) 1000000 ∷ [])
+    (an-int (pos 0) 4 1 ∷ an-int (pos 0) 385 1 ∷ stop 16 384 1 ∷ []) ∷
     -- 14 before 15 and 16: down of null is due inside the 64 forms of down(63) to down(0), after 63 × 6 + 4 steps, the whole budget.
     asks sheetDown 1 (down 1 63) 382 (stop 14 382 0) ∷
     asks sheetP 1 (next-of-null (whole 5)) 0 (stop 14 0 0) ∷
@@ -124,16 +147,35 @@ runs =
 -- whatever else stands between them.
 abbrev pub open-forms : List Row
 open-forms =
-    -- An application's argument: sum(63) takes 63 × 8 + 4 steps, its sum(0) due inside 63 forms. That of sum(64) is due inside 64, after
-    -- 64 × 7.
-    asks sheetSum 0 (sum 63) 1000000 (an-int (pos 63) 508 0) ∷
-    asks sheetSum 0 (sum 64) 1000000 (stop 16 448 0) ∷
     -- As L12, with a part between a form and the next: IF's condition, an application's left part, an attribute's node part and its
-    -- parameter part.
+    -- parameter part, and an application's argument.
     asks sheetInside 0 (inside 0 unit-literal) 65 (stop 16 64 0) ∷
     asks sheetInside 0 (inside 1 unit-literal) 65 (stop 16 64 0) ∷
     asks sheetInside 0 (inside 2 unit-literal) 65 (stop 16 64 0) ∷
     asks sheetInside 0 (inside 3 (whole 5)) 65 (stop 16 64 0) ∷
+    asks sheetInside 0 (inside 4 unit-literal) 129 (stop 16 128 0) ∷
+    []
+
+-- "AttrApp on a kept occurrence goes through with 64 open and counts its one step. Stop 16 is given only when the occurrence due is not kept"
+-- (F-8 of document 02): of last, which is a figure of node 0 and a rule's of node 1.
+abbrev pub depth-rows : ℕ → List Row
+depth-rows n =
+    -- Nothing is kept: taken inside 63 forms, after 141 steps, and too deep inside 64, after 142. With none of the budget left it is spent.
+    row sheetFall 0 (asking (inside63 n) 1000000 ∷ asking (inside64 n) 143 ∷ asking (inside64 n) 142 ∷ [])
+    (an-int (pos 18) 145 0 ∷ stop 16 142 0 ∷ stop 15 142 0 ∷ []) ∷
+    -- Last is kept: taken twice, inside 63 forms and inside 64, each time for one step of the budget.
+    row sheetFall 1 (asking (last n) 1 ∷ asking (inside63 n) 145 ∷ asking (inside64 n) 146 ∷ asking (inside64 n) 142 ∷ [])
+    (an-int (pos 9) 1 1 ∷ an-int (pos 18) 145 1 ∷ an-int (pos 18) 146 1 ∷ stop 15 142 1 ∷ []) ∷
+    []
+
+abbrev pub depths : List Row
+depths =
+    depth-rows 0 ++ depth-rows 1
+    -- A larger store spares the stop: the smaller is full, with last of the other node.
+    ++ row sheetFall 1 (asking (last 1) 1 ∷ asking (last 0) 1 ∷ asking (inside64 0) 1000000 ∷ [])
+    (an-int (pos 9) 1 1 ∷ an-int (pos 9) 1 1 ∷ stop 16 142 1 ∷ []) ∷
+    row sheetFall 2 (asking (last 1) 1 ∷ asking (last 0) 1 ∷ asking (inside64 0) 1000000 ∷ [])
+    (an-int (pos 9) 1 1 ∷ an-int (pos 9) 1 2 ∷ an-int (pos 18) 146 2 ∷ []) ∷
     []
 
 -- A question to the single byte 0x5A, and the type, value and steps of its answer.
@@ -205,5 +247,6 @@ unfoldable pub Misreadings : Type 0
 Misreadings =
     (bring runs ≡ brought runs)
     × (bring open-forms ≡ brought open-forms)
+    × (bring depths ≡ brought depths)
     × (bring functions ≡ brought functions)
     × PlainParts

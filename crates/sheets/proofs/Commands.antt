@@ -7,13 +7,13 @@ use Prim.Native.Nat.{ℕ, _+_, _-_, _≤_, _<_}
 use native.Mathlib.Omega.{arith}
 use lib.ListN.{length, take, drop, getD, set}
 use borrow.Author.Tests.{lt-ltb, le-ltb, le-leb, lt-leb, eq-eqb, ne-eqb, not-true, not-false}
-use Rattle.saiga.specs.Values.{Base, unitT, boolT, intT, nodeT, baseCode, baseOf, Ty, base, _⇒_, ofBytes, isWord}
+use Rattle.saiga.specs.Values.{Base, baseCode, baseOf, Ty, base, _⇒_, ofBytes, isWord}
 use Rattle.saiga.specs.Expressions.{Expr, Whole, no-expression, expression, readWhole}
 use Rattle.saiga.specs.Types.{Attribute, infer, hasType}
 use Rattle.saiga.specs.Sheet.{Command, attribute-command, node-command, figure-command, rule-command, end-command, no-command, commandOf}
 use Rattle.values.specs.Cells.{emptied}
 use Rattle.values.specs.Layout.{resultAt, parameterAt, attributesIn}
-use Rattle.saiga.proofs.Inference.{hasType-sound, hasType-complete}
+use Rattle.saiga.proofs.Inference.{base-of-code, hasType-sound, hasType-complete}
 use Rattle.expressions.specs.declared.Formed.{Formed}
 use Rattle.expressions.specs.declared.Formed.the-variants.{NoExpression, Expression}
 use Rattle.expressions.specs.Forms.{typeNumber, inferredNumber, scopeOf, formedOf}
@@ -124,13 +124,6 @@ module _ (bytes : List ℕ) (p : Progress) (index : List ℕ) where
             figure-goes-on h = went-on (rw (le-leb _ _ early, le-leb _ _ long, ← node, lt-ltb _ _ declared-node, ← attribute, lt-ltb _ _ declared, ← word, ← typed, ← test, not-false t is-word, ← here, eq-eqb _ _ h))
 
 -- ---- A rule
-
-base-of-code : (B : Base) → baseOf (baseCode B) ≡ B
-unfolding baseOf
-base-of-code unitT = refl
-base-of-code boolT = refl
-base-of-code intT = refl
-base-of-code nodeT = refl
 
 -- Only a base type has its number.
 base-by-number : (B : Base) (T : Ty) → typeNumber T ≡ baseCode B + 1 → T ≡ base B

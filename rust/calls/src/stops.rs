@@ -36,7 +36,7 @@ pub enum Stop {
     Null = 14,
     /// A counted step was due with the whole budget used.
     Spent = 15,
-    /// An attribute was due inside 64 open ones.
+    /// An attribute that is not kept was due inside 64 open ones.
     Depth = 16,
 }
 
@@ -125,7 +125,7 @@ impl fmt::Display for Stop {
             Stop::QuestionType => "the question is not of a base type",
             Stop::Null => "an attribute of null was due",
             Stop::Spent => "the budget is spent",
-            Stop::Depth => "an attribute was due inside 64 open ones",
+            Stop::Depth => "an attribute that is not kept was due inside 64 open ones",
         })
     }
 }

@@ -2,6 +2,8 @@
 
 #[path = "../../trials/tests/document01/common.rs"]
 mod common;
+#[path = "../../trials/tests/document01/depth.rs"]
+mod depth;
 #[path = "../../trials/tests/document01/ints.rs"]
 mod ints;
 #[path = "../../trials/tests/document01/sheet_l.rs"]

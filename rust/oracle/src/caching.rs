@@ -11,7 +11,7 @@ use crate::stop::Reason;
 use crate::store::{Occurrence, Store};
 use crate::values::Value;
 
-/// Stop 16: "AttrApp due inside 64 open forms".
+/// Stop 16: "AttrApp due inside 64 open forms"; by F-8 of document 02 "only when the occurrence due is not kept".
 pub const MOST_OPEN: usize = 64;
 
 /// Nesting that the caller's own stack is trusted with.
@@ -100,8 +100,8 @@ impl<'a> Run<'a, '_> {
         }
     }
 
-    /// AttrApp, what lies inside the form it opens, and CacheWrite, which counts none. "Where several of 14 to 16 are due, the smallest"; 16
-    /// comes "whether or not the occurrence due is kept"; and "AttrApp takes a kept value before σ".
+    /// AttrApp, what lies inside the form it opens, and CacheWrite, which counts none. "Where several of 14 to 16 are due, the smallest";
+    /// "AttrApp takes a kept value before σ", and 16 comes "only when the occurrence due is not kept".
     fn attribute(&mut self, node: Value, attribute: u8, parameter: Value) -> Result<Value, Reason> {
         let node = match node {
             Value::Node(Some(node)) => node,
@@ -111,28 +111,30 @@ impl<'a> Run<'a, '_> {
         if self.spent() {
             return Err(Reason::Spent);
         }
-        if self.open == MOST_OPEN {
-            return Err(Reason::Depth);
-        }
-        self.steps += 1;
         let occurrence = Occurrence {
             node,
             attribute,
             parameter,
         };
-        match self.sheet.definition(node, attribute) {
-            Definition::Figure(figure) => Ok(self.store.kept_or(occurrence, figure)),
+        if let Some(value) = self.store.value(&occurrence) {
+            self.steps += 1;
+            return Ok(value);
+        }
+        if self.open == MOST_OPEN {
+            return Err(Reason::Depth);
+        }
+        self.steps += 1;
+        let value = match self.sheet.definition(node, attribute) {
+            Definition::Figure(figure) => figure,
             Definition::Rule(expr) => {
-                if let Some(value) = self.store.value(&occurrence) {
-                    return Ok(value);
-                }
                 self.open += 1;
                 let value = self.evaluate(expr, Some((node, parameter)))?;
                 self.open -= 1;
-                self.store.write(occurrence, value);
-                Ok(value)
+                value
             }
-        }
+        };
+        self.store.write(occurrence, value);
+        Ok(value)
     }
 
     /// Stop 15: "a counted step due with the whole budget used".

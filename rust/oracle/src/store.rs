@@ -64,26 +64,16 @@ impl<'s> Store<'s> {
         self.kept.get(occurrence).copied()
     }
 
-    /// The kept value of an occurrence, or else the one given, which CacheWrite then keeps.
-    pub fn kept_or(&mut self, occurrence: Occurrence, value: Value) -> Value {
+    /// CacheWrite: "appends its occurrence if it is not kept and the store is not full; otherwise it changes nothing".
+    pub fn write(&mut self, occurrence: Occurrence, value: Value) {
         if self.full() {
-            return self.value(&occurrence).unwrap_or(value);
+            return;
         }
         self.reserve();
         let at = self.kept.len() * ENTRY;
-        match self.kept.entry(occurrence) {
-            Entry::Occupied(kept) => *kept.get(),
-            Entry::Vacant(free) => {
-                self.bytes[at..at + ENTRY].copy_from_slice(&entry(occurrence, value));
-                *free.insert(value)
-            }
-        }
-    }
-
-    /// CacheWrite: "appends its occurrence if it is not kept and the store is not full; otherwise it changes nothing".
-    pub fn write(&mut self, occurrence: Occurrence, value: Value) {
-        if !self.full() {
-            self.kept_or(occurrence, value);
+        if let Entry::Vacant(free) = self.kept.entry(occurrence) {
+            self.bytes[at..at + ENTRY].copy_from_slice(&entry(occurrence, value));
+            free.insert(value);
         }
     }
 

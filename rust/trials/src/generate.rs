@@ -2,7 +2,8 @@
 //!
 //! - `sheets.rs`: whole sheets by family: random ones with and without circles, chains deeper than 64, attributes that call
 //!   themselves with smaller parameters, circles, hostile ones (the longest rules, the deepest nesting, the widest fan-out), trees,
-//!   and large ones up to every limit and one byte beyond.
+//!   and large ones up to every limit and one byte beyond. Those with deep chains come with questions of which one has what another keeps
+//!   due inside 64 forms.
 //! - `collisions.rs`: sheets, questions and stores with keys that fall into one bucket of the store's index, and along its longest path.
 //! - `faults.rs`: sheets that are damaged byte by byte, mangled command by command, ill typed, ill formed or incomplete.
 //! - `draft.rs`: values, among them Ints at both ends.

@@ -214,17 +214,18 @@ fn evaluate(
                         return Err(Stop::Null);
                     }
                     budget.allows()?;
-                    if open == MOST_OPEN {
-                        return Err(Stop::Depth);
-                    }
-                    budget.count()?;
                     let key = Key {
                         node,
                         attribute,
                         word: value.word(),
                     };
+                    let found = store.find(key);
+                    if open == MOST_OPEN && matches!(found, Found::Nothing(_)) {
+                        return Err(Stop::Depth);
+                    }
+                    budget.count()?;
                     let result = sheet.result(attribute);
-                    value = match store.find(key) {
+                    value = match found {
                         Found::Value(kept) => result.value(kept),
                         Found::Nothing(free) => match sheet.definition(node, attribute) {
                             Definition::Figure(figure) => {

@@ -27,12 +27,7 @@ impl Base {
 
     /// The type's code.
     pub fn code(self) -> u8 {
-        match self {
-            Base::Unit => 0,
-            Base::Bool => 1,
-            Base::Int => 2,
-            Base::Node => 3,
-        }
+        self as u8
     }
 
     /// Whether a number is the four-byte form of a value of this type.

@@ -1,15 +1,14 @@
 -- `attributes::attribute_due` meets its contract: by the limits, in the order in which the definition tests them.
 use borrow.Author.Needs.{needs}
 use Rattle.engine.specs.CodeSteps.{steppedOf, keptAfter}
-use Rattle.attributes.proofs.Opening.{due-null, due-spent, due-deep, due-waits, node-held, DueStep, due-ready, due-goes}
+use Rattle.attributes.proofs.Opening.{due-null, due-spent, node-held, DueStep, due-ready, due-taken}
 use Rattle.attributes.proofs.attribute_due.Statement.{statement}
 use Rattle.attributes.proofs.attribute_due.Tie as tie
 
 -- From where the attribute is read: where the node is read, and the start. An answer further on does not see so far back by itself.
 abbrev read : tie.After-attribute → tie.After-node-of
 read c =
-    let at-struct-known4 = c .before .before .before in
-    let at-if2 = at-struct-known4 .before .before .before in
+    let at-if2 = c .before in
     let at-if1 = at-if2 .before .before .before in
     at-if1 .before
 
@@ -21,7 +20,7 @@ start c =
 
 due : (c : tie.After-attribute)
     → DueStep (start c .args .sheet .now) (start c .args .index .now) (start c .args .store .now) (start c .args .links .now)
-    (start c .args .memory .now) (start c .args .limits .budget) (start c .args .limits .pause) (start c .args .m) (start c .args .w)
+    (start c .args .memory .now) (start c .args .limits .budget) (start c .args .m) (start c .args .w)
     (read c .node-of .result) (c .attribute .result)
 due c =
     record {
@@ -29,8 +28,6 @@ due c =
       attribute-is = search;
       no-null = search;
       left = search;
-      few = search;
-      before = search;
       ready = start c .pre .1;
     }
 
@@ -44,8 +41,6 @@ attribute-due-spec =
     (λ c κs. search needs)
     (λ c. search (needs, due-null))
     (λ c. search (needs, due-spent))
-    (λ c. search (needs, due-deep))
-    (λ c. search (needs, due-waits))
     (λ c. search needs)  -- the key
     (λ c κs. search needs)
     (λ c. search needs)
@@ -58,4 +53,4 @@ attribute-due-spec =
     let at-links = c .before .before .before in
     let at-take-attribute = at-links .before .before .before in
     let at-take-attribute-arg = at-take-attribute .before .before .before in
-    (search (due-goes, due (at-take-attribute-arg .before .before)), (search needs, tt))))
+    (search (due-taken, due (at-take-attribute-arg .before .before)), search needs)))

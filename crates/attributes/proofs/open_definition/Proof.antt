@@ -1,6 +1,6 @@
 -- `attributes::open_definition` meets its contract: the figure if there is one, else there is a rule.
 use borrow.Author.Needs.{needs}
-use Rattle.attributes.proofs.Opening.{frame-there, step-fits, rule-ready, opens, opening-keeps, answers, answer-keeps}
+use Rattle.attributes.proofs.Opening.{answer-ready, rule-ready, opens, opening-keeps, answers, answer-keeps}
 use Rattle.attributes.proofs.CacheWriteCases.{fields-keyed, fields-new, fields-free}
 use Rattle.attributes.proofs.open_definition.Statement.{statement}
 use Rattle.attributes.proofs.open_definition.Tie as tie
@@ -19,7 +19,7 @@ open-definition-spec =
     (λ c. (search opens, opening-keeps _ _ _ _ _ _ _ _ _ _ _ (c .before .before .open-rule .ensures) (search needs)))
     (λ c κs. search needs)  -- the figure
     (λ c κs. search (needs, fields-keyed, fields-new, fields-free))
-    (λ c κs. search (needs, frame-there, step-fits))
+    (λ c κs. search answer-ready)
     (λ c. search needs)
     (λ c. search needs)
     (λ c. search (answers, answer-keeps)))

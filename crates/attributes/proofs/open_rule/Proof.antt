@@ -2,7 +2,7 @@
 use native.Mathlib.Omega.{arith}
 use lib.ListN.{length-set}
 use borrow.Author.Needs.{needs}
-use Rattle.attributes.proofs.Opening.{steps-fit, rule-short, rule-runs}
+use Rattle.attributes.proofs.Opening.{step-fits, rule-short, rule-runs}
 use Rattle.attributes.proofs.open_rule.Statement.{statement}
 use Rattle.attributes.proofs.open_rule.Tie as tie
 
@@ -34,6 +34,6 @@ open-rule-spec =
     (λ c. simp length-set (omega arith))
     (λ c. search rule-short)  -- start + piece.len()
     (λ c. search needs)
-    (λ c. search steps-fit)
+    (λ c. search step-fits)
     (λ c. search needs)
     (λ c store. search rule-runs))

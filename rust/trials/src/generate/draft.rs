@@ -17,6 +17,8 @@ pub struct Draft {
     pub rules: Vec<(u8, u8, Vec<u8>)>,
     /// What its questions and stores can name, where the sheet is made for it.
     pub colliding: Option<Colliding>,
+    /// Questions of which one has what another keeps due inside 64 forms, or one more or less.
+    pub apart: Vec<Vec<u8>>,
 }
 
 impl Draft {

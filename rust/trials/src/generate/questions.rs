@@ -17,6 +17,9 @@ pub fn question(rng: &mut Rng, draft: &Draft) -> Vec<u8> {
             return colliding.question(rng);
         }
     }
+    if !draft.apart.is_empty() && rng.once_in(3) {
+        return draft.apart[rng.below(draft.apart.len())].clone();
+    }
     let attributes = draft.attributes.len().min(MOST_ATTRIBUTES);
     let pairs = attributes > 0 && !draft.nodes.is_empty();
     let mut writer = Writer {

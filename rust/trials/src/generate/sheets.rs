@@ -1,5 +1,6 @@
 //! Sheets by family.
 
+use oracle::caching::MOST_OPEN;
 use oracle::expr::LONGEST;
 use oracle::sheet::{LONGEST_SHEET, MOST_ATTRIBUTES, MOST_NODES};
 use oracle::values::{Base, Type, Value};
@@ -68,7 +69,7 @@ fn random_sheet(rng: &mut Rng, circles: bool) -> Draft {
     draft
 }
 
-/// Sheet L's attributes, and one with a parameter, over a chain of nodes that can be longer than 64.
+/// Sheet L's attributes, and one with a parameter, over a chain of nodes that can be longer than 64, whole or with breaks.
 fn chain(rng: &mut Rng) -> Draft {
     let mut draft = Draft::default();
     let up = draft.attribute(Base::Node, Base::Unit);
@@ -81,15 +82,16 @@ fn chain(rng: &mut Rng) -> Draft {
         8..=10 => rng.between(8, 150),
         _ => MOST_NODES,
     };
+    let whole = rng.once_in(2);
     for place in 0..length {
         let node = draft.node(u8::from(place > 0));
         let above = match node.checked_sub(1) {
-            Some(_) if rng.once_in(50) => Some(rng.below(length) as u16),
+            Some(_) if !whole && rng.once_in(50) => Some(rng.below(length) as u16),
             above => above,
         };
         let value = match place {
             0 => 700,
-            _ if rng.once_in(40) => int(rng),
+            _ if !whole && rng.once_in(40) => int(rng),
             _ => 0,
         };
         draft.figures.push((node, up, Value::Node(above)));
@@ -109,6 +111,15 @@ fn chain(rng: &mut Rng) -> Draft {
     draft
         .rules
         .push((1, total, apply(4, &[&number(1), &further])));
+    if length > MOST_OPEN {
+        // The last of 64 forms that `dial` opens, and what is due inside it.
+        let outer = rng.between(MOST_OPEN, length - 1) as u16;
+        let inner = outer + 1 - MOST_OPEN as u16;
+        for (node, attribute) in [(outer, dial), (inner, own), (inner, up), (inner - 1, dial)] {
+            let question = of(&literal(Value::Node(Some(node))), attribute, &[0x10]);
+            draft.apart.push(question);
+        }
+    }
     draft
 }
 
@@ -135,6 +146,13 @@ fn countdown(rng: &mut Rng) -> Draft {
     draft
         .rules
         .push((0, odd, if_else(&done, &[0x11, 0], &other)));
+    let least = rng.pick(&[0, 0, 1, 2, 30]);
+    for above in [0, 63, 64, 65] {
+        for attribute in [count, odd] {
+            let question = of(&[0x13, 0, 0], attribute, &number(least + above));
+            draft.apart.push(question);
+        }
+    }
     draft
 }
 
@@ -326,8 +344,38 @@ fn fill(rng: &mut Rng, draft: &mut Draft, length: usize) {
 #[cfg(test)]
 mod tests {
     use super::*;
+    use oracle::ask::{ask_accepted, MOST_STEPS};
     use oracle::sheet::Sheet;
     use oracle::stop::Reason;
+
+    /// The number that the last of some questions brings, put one after the other to one store.
+    fn last_number(draft: &Draft, questions: &[usize]) -> i64 {
+        let read = Sheet::read(&draft.bytes()).expect("an accepted sheet");
+        let mut store = vec![0; 12 * 1_024];
+        let (mut kept, mut number) = (0, 0);
+        for &place in questions {
+            let question = &draft.apart[place];
+            let answer = ask_accepted(&read, &mut store, kept, question, MOST_STEPS);
+            (kept, number) = (answer.kept as u64, answer.number);
+        }
+        number
+    }
+
+    /// Of 60 sheets of a family, those of which the last question is stop 16 by itself and has a value after the others.
+    fn spared(family: fn(&mut Rng) -> Draft, questions: &[usize]) -> usize {
+        let alone = &questions[questions.len() - 1..];
+        (0..60)
+            .map(|number| family(&mut Rng::new(3, number)))
+            .filter(|draft| !draft.apart.is_empty() && last_number(draft, alone) == 16)
+            .filter(|draft| last_number(draft, questions) == 0)
+            .count()
+    }
+
+    #[test]
+    fn deep_chains_come_with_questions_64_forms_apart() {
+        assert!(spared(chain, &[3, 2, 1, 0]) >= 10);
+        assert!(spared(countdown, &[0, 4]) >= 10);
+    }
 
     #[test]
     fn every_family_is_accepted() {

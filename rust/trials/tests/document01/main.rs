@@ -1,8 +1,9 @@
-//! What documents 01 and 02 say, case by case, put to the second evaluator. The cases of `ints`, `sheet_l`, `stops` and `types` are put to
+//! What documents 01 and 02 say, case by case, put to the second evaluator. The cases of `depth`, `ints`, `sheet_l`, `stops` and `types` are put to
 //! `crate::ask`, so that another test can put them to another engine.
 
 mod common;
 mod comparing;
+mod depth;
 mod ints;
 mod page;
 mod sheet_l;

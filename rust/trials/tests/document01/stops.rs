@@ -1,4 +1,4 @@
-//! Document 01, "Stops by origin": each stop, its place, and the order among them.
+//! Document 01, "Stops by origin": each stop, its place, and the order among them. `depth` has stop 16.
 
 use crate::ask;
 use crate::common::*;
@@ -489,78 +489,6 @@ fn stop_15_is_due_at_each_counted_step() {
         assert_eq!(given, Answer::from([15, 0, 0, 0, 0, 0]), "{question:?}");
         assert_eq!(fresh(&sheet_l(), &question, 1).number, 0);
     }
-}
-
-/// A chain of `length` nodes. Attribute 1 is the node before, null at node 0; attribute 0 is that of the node before,
-/// 5 at node 0.
-fn chain(length: u16) -> Vec<u8> {
-    let before = of(&of(&THIS, 1, &UNIT), 0, &UNIT);
-    let ups = (1..length).flat_map(|number| figure(number, 1, i32::from(number) - 1));
-    [
-        attribute(2, 0),
-        attribute(3, 0),
-        node(0).repeat(usize::from(length)),
-        figure(0, 0, 5),
-        figure(0, 1, 65_535),
-        ups.collect(),
-        rule(0, 0, &before),
-        end(),
-    ]
-    .concat()
-}
-
-#[test]
-fn stop_16_is_due_inside_64_open_forms() {
-    let sheet = chain(70);
-    // Node n's attribute opens n forms before node 0's figure is due.
-    let question = |number| of(&node_literal(number), 0, &UNIT);
-    let given = fresh(&sheet, &question(63), MOST);
-    assert_eq!(given, Answer::from([0, 0, 2, 5, 127, 127]));
-    // Inside the 64th form even the figure of `up` is one too deep.
-    let given = fresh(&sheet, &question(64), MOST);
-    assert_eq!(given, Answer::from([16, 0, 0, 0, 127, 63]));
-    let given = fresh(&sheet, &question(64), 127);
-    assert_eq!(given, Answer::from([15, 0, 0, 0, 127, 63]));
-}
-
-#[test]
-fn stop_16_counts_only_forms_that_stand_around() {
-    // Attribute 1 opens ten forms of attribute 0, the question ten of attribute 1: 110 in all, two at a time.
-    let sum_of = |part: &[u8]| (1..10).fold(part.to_vec(), |sum, _| binary(4, &sum, part));
-    let sheet = [
-        attribute(2, 0),
-        attribute(2, 0),
-        node(0),
-        rule(0, 0, &int(3)),
-        rule(0, 1, &sum_of(&of(&THIS, 0, &UNIT))),
-        end(),
-    ]
-    .concat();
-    let question = sum_of(&of(&node_literal(0), 1, &UNIT));
-    let given = Lent::new(0).ask(&sheet, &question, MOST);
-    let steps = 10 * (1 + 10 + 9 * 2) + 9 * 2;
-    assert_eq!(given, Answer::from([0, 0, 2, 300, steps, 0]));
-}
-
-#[test]
-fn stop_16_holds_for_kept_occurrences_too() {
-    let sheet = chain(70);
-    let question = |number| of(&node_literal(number), 0, &UNIT);
-    let mut lent = Lent::new(1_024);
-    // Node 1's attribute and `up` are kept, so node 64's chain would end at node 1.
-    let given = lent.ask(&sheet, &question(1), MOST);
-    assert_eq!(given, Answer::from([0, 0, 2, 5, 3, 3]));
-    // Nodes 65 to 2 open 64 forms; inside the 64th, node 2's `up` is not kept and is due too deep.
-    let given = lent.ask(&sheet, &question(65), MOST);
-    assert_eq!(given, Answer::from([16, 0, 0, 0, 127, 66]));
-    // Now node 2's `up` is kept, as every `up` from 65 to 3 was.
-    let given = lent.ask(&sheet, &of(&node_literal(2), 1, &UNIT), MOST);
-    assert_eq!(given, Answer::from([0, 0, 3, 1, 1, 67]));
-    let given = lent.ask(&sheet, &question(65), MOST);
-    assert_eq!(given, Answer::from([16, 0, 0, 0, 127, 67]));
-    // From node 64 the 63rd form is node 2's; node 1's kept value ends it.
-    let given = lent.ask(&sheet, &question(64), MOST);
-    assert_eq!(given, Answer::from([0, 0, 2, 5, 127, 67 + 63]));
 }
 
 #[test]
