@@ -7,7 +7,7 @@
  *
  * Of every call it is required that
  *   - each pointer leads to as many bytes or numbers as its length or its array says (of length 0 it may be any pointer);
- *   - what is written (store, scratch, answer, place, found) overlaps nothing else that the call is given;
+ *   - what is written (store, scratch, answer, tally, place, found) overlaps nothing else that the call is given;
  *   - the thread has the stack that is said below.
  * One call, sofretu_ask_checked, requires more, which is said with it.
  *
@@ -70,6 +70,16 @@ enum {
     SOFRETU_KEPT    /* the number kept afterwards; under stops 1 to 13 as lent (in two's complement if above 2^63 - 1) */
 };
 
+/* The rows of a tally, which tells where an answer's counted steps went: attribute a has row a, and the two rows after those of the 32
+ * attributes are named here. The rows add up to the answer's steps. A call that takes a `tally` writes all its rows, whatever they held: stops
+ * 14 to 16 bring the steps before the stop, stops 1 to 13 zeros. */
+#define SOFRETU_TALLY_ROWS 34
+
+enum {
+    SOFRETU_APPLICATIONS = 32, /* a function was given an argument: a function of two arguments makes two such steps */
+    SOFRETU_CONDITIONS = 33    /* a branch of an IF was chosen */
+};
+
 /* The stops, by who causes them. */
 enum {
     /* the sheet's author */
@@ -100,7 +110,7 @@ void sofretu_ask(const uint8_t *sheet, uint64_t sheet_len,
                  const uint8_t *question, uint64_t question_len,
                  uint8_t *store, uint64_t store_len, uint64_t kept,
                  uint64_t budget,
-                 int64_t answer[SOFRETU_FIELDS]);
+                 int64_t answer[SOFRETU_FIELDS], uint64_t tally[SOFRETU_TALLY_ROWS]);
 
 /* The same with lent scratch. Nothing is asked of what the scratch holds. Afterwards `checked_sheet` and `noted_sheet` are those of an accepted sheet, as
  * sofretu_check_sheet leaves them, and free of a refused one; `checked_store` is that of the store that is left, if sheet and store were accepted, and
@@ -111,7 +121,7 @@ void sofretu_ask_in(const uint8_t *sheet, uint64_t sheet_len,
                     uint64_t budget,
                     sofretu_checked_sheet *checked_sheet, sofretu_noted_sheet *noted_sheet,
                     sofretu_checked_store *checked_store, sofretu_run *run,
-                    int64_t answer[SOFRETU_FIELDS]);
+                    int64_t answer[SOFRETU_FIELDS], uint64_t tally[SOFRETU_TALLY_ROWS]);
 
 /* The check of a sheet, once for many questions: 0, or the stop's number, 1 to 8. `found` is place, attributes, nodes: the place is 0 of
  * an accepted sheet, the other two are 0 of a refused one. Fills `checked_sheet` and `noted_sheet`, which are free afterwards of a refused
@@ -139,7 +149,7 @@ void sofretu_ask_checked(const uint8_t *sheet, uint64_t sheet_len,
                          uint8_t *store, uint64_t store_len, uint64_t kept,
                          uint64_t budget,
                          sofretu_checked_store *checked_store, sofretu_run *run,
-                         int64_t answer[SOFRETU_FIELDS]);
+                         int64_t answer[SOFRETU_FIELDS], uint64_t tally[SOFRETU_TALLY_ROWS]);
 
 /* The first of stops 1 to 13 that holds of a call's arguments, with its place; or 0. */
 uint32_t sofretu_check(const uint8_t *sheet, uint64_t sheet_len,

@@ -1,4 +1,5 @@
-/* Sheet L of document 01 and four questions to one store. Prints number, place, type, value, steps and kept of each answer.
+/* Sheet L of document 01 and four questions to one store. Prints number, place, type, value, steps and kept of each answer, and then where
+ * the steps of the first went.
  *
  *     rt staticlib sofretu
  *     gcc -std=c99 -Iinclude examples/c/ask.c target/staticlib/libsofretu.a -o ask && ./ask
@@ -44,6 +45,22 @@ static sofretu_noted_sheet noted_sheet;
 static sofretu_checked_store checked_store;
 static sofretu_run run;
 
+/* The rows that are not 0, in words. */
+static void print_tally(const uint64_t tally[SOFRETU_TALLY_ROWS]) {
+    for (int row = 0; row < SOFRETU_TALLY_ROWS; row++) {
+        if (tally[row] == 0) {
+            continue;
+        }
+        if (row == SOFRETU_APPLICATIONS) {
+            printf("applications: %" PRIu64 "\n", tally[row]);
+        } else if (row == SOFRETU_CONDITIONS) {
+            printf("conditions: %" PRIu64 "\n", tally[row]);
+        } else {
+            printf("attribute %d: %" PRIu64 "\n", row, tally[row]);
+        }
+    }
+}
+
 int main(void) {
     /* The sheet and the store are checked once, then the questions are put one after the other. */
     uint64_t found[3];
@@ -59,14 +76,17 @@ int main(void) {
         fprintf(stderr, "store: stop %" PRIu32 " at %" PRIu64 "\n", stop, place);
         return 1;
     }
+    uint64_t tallies[sizeof questions / sizeof questions[0]][SOFRETU_TALLY_ROWS];
     for (size_t i = 0; i < sizeof questions / sizeof questions[0]; i++) {
         int64_t answer[SOFRETU_FIELDS];
         sofretu_ask_checked(sheet, sizeof sheet, &checked_sheet, &noted_sheet, questions[i].bytes, questions[i].len, store, sizeof store,
-                            kept, SOFRETU_MOST_STEPS, &checked_store, &run, answer);
+                            kept, SOFRETU_MOST_STEPS, &checked_store, &run, answer, tallies[i]);
         for (int field = 0; field < SOFRETU_FIELDS; field++) {
             printf("%" PRId64 "%c", answer[field], field + 1 < SOFRETU_FIELDS ? ' ' : '\n');
         }
         kept = (uint64_t)answer[SOFRETU_KEPT];
     }
+    printf("steps of the first question:\n");
+    print_tally(tallies[0]);
     return 0;
 }

@@ -3,9 +3,10 @@ use mathlib.Core.List.{List, []}
 use mathlib.Core.Path.{_≡_, refl, sym, ap, _∙_}
 use Prim.Native.Nat.{ℕ}
 use native.Mathlib.Omega.{arith}
-use lib.ListN.{length}
+use lib.ListN.{length, replicate}
+use Rattle.saiga.specs.Limits.{tallyRows}
 use Rattle.saiga.specs.Expressions.{Expr}
-use Rattle.saiga.specs.Sheet.{Sheet, Checked, refused_at-place_, accepted, checkSheet}
+use Rattle.saiga.specs.Sheet.{Sheet, Checked, refused_at-place_, accepted}
 use Rattle.saiga.specs.Caching.{Entry}
 use Rattle.saiga.specs.Store.{checkStore}
 use Rattle.saiga.specs.Ask.{Lent, lent, Call, asking, refusal, _then-check_, AcceptedCall, checkCall, ask}
@@ -27,13 +28,14 @@ use Rattle.calls.specs.Askable.{Askable, RunScratch}
 
 -- ---- A refusal
 
--- the answer of a refusal is the same whatever the store's bytes are, and leaves them
+-- the answer of a refusal is the same whatever the store's bytes are, has a tally of zeros, and leaves the bytes
 pub refuses : (sheet : List ℕ) (m : Lent) (c : Call) {number place : ℕ} (r : Answer) → checkCall sheet m c ≡ refused number at-place place
-    → answerOf r ≡ refusal (lent [] (m .kept)) number place .answer → (answerOf r ≡ ask sheet m c .answer) × (m .store ≡ ask sheet m c .store)
+    → answerOf r ≡ refusal (lent [] (m .kept)) number place .answer
+    → (answerOf r ≡ ask sheet m c .answer) × (replicate tallyRows 0 ≡ ask sheet m c .tally) × (m .store ≡ ask sheet m c .store)
 unfolding refusal
 refuses sheet m c r stops answer =
     let is = ask-refuses sheet m c stops in
-    (answer ∙ sym (ap (λ o. o .answer) is), sym (ap (λ o. o .store) is))
+    (answer ∙ sym (ap (λ o. o .answer) is), sym (ap (λ o. o .tally) is), sym (ap (λ o. o .store) is))
 
 pub refusal-keeps : (kept number place : ℕ) (r : Answer) → answerOf r ≡ refusal (lent [] kept) number place .answer → answerOf r .kept ≡ kept
 unfolding refusal

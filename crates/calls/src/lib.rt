@@ -1,5 +1,5 @@
-// A question call (document 01, "Contracts"): the sheet, the store with its kept number, the question and the budget in; the answer out, and the
-// store with what the run kept. `ask` checks all of them; `ask_checked` is for a caller who has checked the sheet and indexed the store.
+// A question call (document 01, "Contracts"): the sheet, the store with its kept number, the question and the budget in; the answer out, its tally
+// (F-2 of document 02), and the store with what the run kept. `ask` checks all of them; `ask_checked` is for a caller who has checked the sheet and indexed the store.
 pub mod checks;
 
 use checks::Verdict;
@@ -10,10 +10,13 @@ use expressions::QuestionCheck;
 use runs::RunEnd;
 use saiga::Value;
 use saiga::limits::SHEET_LIMIT;
+use saiga::limits::TALLY_ROWS;
 use sheets::lookup::INDEX_SIZE;
 use stores::LINKS_SIZE;
 ghost use mathlib.Core.List.{[]};
 ghost use mathlib.Core.Path.{_≡_};
+ghost use lib.ListN.{replicate};
+ghost use Rattle.saiga.specs.Limits.{tallyRows};
 ghost use Rattle.saiga.specs.declared.Value.the-variants.{Unit as unit};
 ghost use Rattle.saiga.specs.Ask.{lent, asking, refusal, checkCall, ask as called};
 ghost use Rattle.stores.specs.Keys.{Linked};
@@ -36,6 +39,13 @@ pub fn refuse(number: u32, place: usize, kept: usize) -> Answer
     Answer::Refusal(number, place, 0, kept)
 }
 
+// No steps, whatever the tally held: what a refusal brings, and what a run begins with.
+fn clear(tally: &mut [u64; TALLY_ROWS])
+    ensures { λ _. ⌜ now (tally .exit) ≡ replicate tallyRows 0 ⌝ }
+{
+    *tally = [0u64; TALLY_ROWS];
+}
+
 // The registers before the first byte of a question.
 fn begin(question: &[u8], kept: usize) -> Registers
     ensures { λ r. ⌜ r ≡ started (now (question .entry)) kept unit ⌝ }
@@ -52,7 +62,7 @@ fn begin(question: &[u8], kept: usize) -> Registers
     }
 }
 
-// An accepted question with a permitted budget is put to a checked store.
+// An accepted question with a permitted budget is put to a checked store, with a tally of zeros.
 fn put<'a>(
     sheet: &'a [u8],
     index: &[u16],
@@ -61,11 +71,14 @@ fn put<'a>(
     store: &mut [u8],
     links: &mut [u16],
     memory: &mut [u64],
+    tally: &mut [u64],
     kept: usize,
     budget: usize,
 ) -> Answer
     requires { ⌜ Askable (now sheet) (now index) (now notes) (now question) (now store) (now links) (now memory) kept budget ⌝ }
+    requires { ⌜ now tally ≡ replicate tallyRows 0 ⌝ }
     ensures { λ r. ⌜ answerOf r ≡ called (now (sheet .entry)) (lent (now (store .entry)) kept) (asking (now (question .entry)) budget) .answer ⌝ }
+    ensures { λ _. ⌜ now (tally .exit) ≡ called (now (sheet .entry)) (lent (now (store .entry)) kept) (asking (now (question .entry)) budget) .tally ⌝ }
     ensures { λ _. ⌜ now (store .exit) ≡ called (now (sheet .entry)) (lent (now (store .entry)) kept) (asking (now (question .entry)) budget) .store ⌝ }
     ensures { λ r. ⌜ Linked (now (store .exit)) (answerOf r .kept) (now (links .exit)) ⌝ }
 {
@@ -82,6 +95,7 @@ fn put<'a>(
         store,
         links,
         memory,
+        tally,
         limits,
         first,
     ) {
@@ -107,15 +121,19 @@ pub fn ask_checked<'a>(
     budget: usize,
     links: &mut [u16],
     memory: &mut [u64; RUN_SIZE],
+    tally: &mut [u64; TALLY_ROWS],
 ) -> Answer
     requires { ⌜ PreparedSheet (now sheet) (now index) × NotedSheet (now sheet) (now index) (now notes) ⌝ }
     requires { ⌜ PreparedStore (now sheet) (now store) kept (now links) ⌝ }
     ensures { λ r. ⌜ answerOf r ≡ called (now (sheet .entry)) (lent (now (store .entry)) kept) (asking (now (question .entry)) budget) .answer ⌝ }
+    ensures { λ _. ⌜ now (tally .exit) ≡ called (now (sheet .entry)) (lent (now (store .entry)) kept) (asking (now (question .entry)) budget) .tally ⌝ }
     ensures { λ _. ⌜ now (store .exit) ≡ called (now (sheet .entry)) (lent (now (store .entry)) kept) (asking (now (question .entry)) budget) .store ⌝ }
     ensures { λ r. ⌜ PreparedStore (now (sheet .entry)) (now (store .exit)) (answerOf r .kept) (now (links .exit)) ⌝ }
     ensures { λ _. ⌜ RunScratch (checkCall (now (sheet .entry)) (lent (now (store .entry)) kept) (asking (now (question .entry)) budget))
         (now (memory .entry)) (now (memory .exit)) ⌝ }
 {
+    clear(tally);
+    let rows: &mut [u64] = tally;
     let words: &mut [u64] = memory;
     let attributes = sheets::lookup::attribute_count(index);
     let nodes = sheets::lookup::node_count(index);
@@ -129,13 +147,14 @@ pub fn ask_checked<'a>(
             store,
             links,
             words,
+            rows,
             kept,
             budget,
         ),
     }
 }
 
-// A question call: the checks, and then the run. `index`, `notes`, `links` and `memory` are scratch, of which nothing is asked.
+// A question call: the checks, and then the run. `index`, `notes`, `links` and `memory` are scratch; nothing is asked of them, nor of what the tally held.
 pub fn ask<'a>(
     sheet: &'a [u8],
     question: &'a [u8],
@@ -146,13 +165,17 @@ pub fn ask<'a>(
     notes: &mut [u8; SHEET_LIMIT],
     links: &mut [u16; LINKS_SIZE],
     memory: &mut [u64; RUN_SIZE],
+    tally: &mut [u64; TALLY_ROWS],
 ) -> Answer
     ensures { λ r. ⌜ answerOf r ≡ called (now (sheet .entry)) (lent (now (store .entry)) kept) (asking (now (question .entry)) budget) .answer ⌝ }
+    ensures { λ _. ⌜ now (tally .exit) ≡ called (now (sheet .entry)) (lent (now (store .entry)) kept) (asking (now (question .entry)) budget) .tally ⌝ }
     ensures { λ _. ⌜ now (store .exit) ≡ called (now (sheet .entry)) (lent (now (store .entry)) kept) (asking (now (question .entry)) budget) .store ⌝ }
     ensures { λ r. ⌜ Indexes (now (sheet .entry)) (now (store .exit)) (answerOf r .kept) (now (index .exit)) (now (notes .exit)) (now (links .exit)) ⌝ }
     ensures { λ _. ⌜ RunScratch (checkCall (now (sheet .entry)) (lent (now (store .entry)) kept) (asking (now (question .entry)) budget))
         (now (memory .entry)) (now (memory .exit)) ⌝ }
 {
+    clear(tally);
+    let rows: &mut [u64] = tally;
     let words: &mut [u64] = memory;
     match checks::check(sheet, question, store, kept, budget, index, notes, links) {
         Verdict::Refused(number, place) => refuse(number, place, kept),
@@ -164,6 +187,7 @@ pub fn ask<'a>(
             store,
             links,
             words,
+            rows,
             kept,
             budget,
         ),

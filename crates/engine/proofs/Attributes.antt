@@ -36,7 +36,7 @@ use Rattle.engine.specs.Machine.{Frame, on-if, on-left, on-skip, on-righ
 use Rattle.engine.specs.Machine as Machine
 use Rattle.engine.specs.FrameWords.{kindOf, ifKind, leftKind, skipKind, rightKind, nodeKind, parameterKind, formKind, heldAttribute, heldNode}
 use Rattle.engine.specs.Decode.{sheetOf, entriesOf, plainFrame, formOccurrence, formRest, framesIn, modeOf, machineOf, Placed}
-use Rattle.engine.specs.Steps.{Memory, Stepped, goes, waits, answered, cacheWrite, closeForm, untilLimit, openRule, openFigure, takeKept, attributeDue}
+use Rattle.engine.specs.Steps.{Memory, Stepped, goes, answered, cacheWrite, closeForm, untilLimit, openRule, openFigure, takeKept, attributeDue}
 use Rattle.engine.specs.declared.Registers.{Registers}
 use Rattle.engine.proofs.Bounds.{represents-sized, frames-fit}
 use Rattle.engine.specs.Machine.{Next, by-move, by-step}
@@ -363,13 +363,13 @@ module _ {sheet index question : List ℕ} {mem : Memory} {m : Registers} (r : R
         let t = attr-in (plug-in s under _ _ (value-typed (on-parameter held a ∷ under) parameter-frames) .1) in
         (t .0, val-in (t .1), val-in (t .2))
 
+    pub attribute-is : attributeAt (s .attributes) a ≡ attributeIn sheet a
+    attribute-is = attribute-by-index sheet s index (r .index-of .described) a (parameter-typed .0)
+
     -- The occurrence due is of the sheet, and so is its definition.
     module _ (no-null : eqb (nodeOf held) null ≡ false) where
       pub due-in : OccurrenceIn (nodeCount s) (s .attributes) due
       due-in = record { node-declared = declared (parameter-typed .1) no-null; attribute-declared = parameter-typed .0; parameter-in = parameter-typed .2 }
-
-      pub attribute-is : attributeAt (s .attributes) a ≡ attributeIn sheet a
-      attribute-is = attribute-by-index sheet s index (r .index-of .described) a (parameter-typed .0)
 
       pub definition-at : definition s (nodeOf held) a
           ≡ figured (indexed (getD index (figurePlace (nodeOf held) a) 0) (figureAt sheet a)) (ruled (indexed (ruleNumber sheet index (nodeOf held) a) (pieceAt sheet)))
@@ -530,7 +530,7 @@ module _ {sheet index question : List ℕ} {mem : Memory} {m : Registers} (r : R
             either P (leb 64 (m .forms)) (λ many. too-deep absent (leb-true 64 (m .forms) many))
             (λ few. let few = leb-false 64 (m .forms) few in waits-or (shallow absent few) _ (figures absent few _ refl))
         takes-kept (some j) e =
-            let found = rw (attribute-is no-null) at (by-key _ _ _ (r .holds .stored) .found due j (due-in no-null) e) in
+            let found = rw attribute-is at (by-key _ _ _ (r .holds .stored) .found due j (due-in no-null) e) in
             let shallow = not-deep-kept entries (openForms under) due found in
             waits-or shallow _
             (answers shallow _ entries (mem .store, m .kept) (record { passes = r .holds .stored; same-length = refl })

@@ -14,6 +14,8 @@ pub mod HeadsRead
 pub mod ReadyForCode
 pub mod Whole
 pub mod Left
+pub mod StepRows
 pub mod Loop
+pub mod Tallying
 pub mod Cost
 pub mod Tracking

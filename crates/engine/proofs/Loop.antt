@@ -14,7 +14,8 @@ use Rattle.saiga.specs.Values.{Ty, base}
 use Rattle.saiga.specs.declared.Value.{Value}
 use Rattle.saiga.specs.declared.Value.the-variants.{Unit as unit}
 use Rattle.saiga.specs.Sheet.{Sheet, nodeCount, accepted, checkSheet, questionScope, context}
-use Rattle.saiga.specs.Caching.{Entry, Due, State, Ending, with-value, Reason, by, Ended, dueAt}
+use Rattle.saiga.specs.Caching.{Entry, Counted, Due, State, Ending, with-value, Reason, by, Ended, dueAt}
+use Rattle.saiga.specs.Tally.{tally}
 use Rattle.saiga.specs.Runs.{Runs}
 use Rattle.saiga.specs.Store.{checkStore, entriesBytes, leftStore}
 use Rattle.saiga.specs.Expressions.{Expr, Whole, no-expression, readWhole}
@@ -56,7 +57,7 @@ module _ (sheet question store words forms : List ℕ) (kept : ℕ) (any : Value
   abbrev lent-memory : Memory
   lent-memory = record { store = store; words = words; forms = forms }
 
-  start-machine : machineIn sheet question lent-memory (started question kept any) ≡ start question entries
+  pub start-machine : machineIn sheet question lent-memory (started question kept any) ≡ start question entries
   unfolding machineOf modeOf framesIn restOf pieceIn entriesOf
   start-machine = rw (passes, sub-zero, take-length)
 
@@ -110,7 +111,7 @@ start-at sheet index question budget store words forms kept any entries e accept
       within = omega arith;
     }
 
-sheet-is : (sheet : List ℕ) (s : Sheet) → checkSheet sheet ≡ accepted s → s ≡ sheetOf sheet
+pub sheet-is : (sheet : List ℕ) (s : Sheet) → checkSheet sheet ≡ accepted s → s ≡ sheetOf sheet
 unfolding sheetIn
 sheet-is sheet s ok = rw ok
 
@@ -133,7 +134,7 @@ module _ (s : Sheet) (bytes : List ℕ) (ok : checkSheet bytes ≡ accepted s) (
   abbrev Typed : State → Type 0
   Typed st = All (EntryIn (nodeCount s) (s .attributes)) (st .entries) × RunningIn (nodeCount s) (s .attributes) (st .term) T
 
-  is-due : (st : State) → Typed st → {d : Due} → dueAt (context s) capacity budget st ≡ d → DueIn (nodeCount s) (s .attributes) T d
+  pub is-due : (st : State) → Typed st → {d : Due} → dueAt (context s) capacity budget st ≡ d → DueIn (nodeCount s) (s .attributes) T d
   unfolding dueAt
   is-due st (all, t) e =
       subst (DueIn (nodeCount s) (s .attributes) T) e
@@ -148,7 +149,7 @@ module _ (s : Sheet) (bytes : List ℕ) (ok : checkSheet bytes ≡ accepted s) (
   next-in M M′ good t (by-move e) = uncounted-in (stateOf s M) (stateOf s M′) t (rw e at (simulates s capacity budget (pieces bytes s ok) M good))
   next-in M M′ good t (by-step r e) =
       let (u, d, n) = rw e at (simulates s capacity budget (pieces bytes s ok) M good) in
-      uncounted-in (record { term = u; entries = M .entries; steps = suc (M .steps) }) (stateOf s M′) (t .0, is-due (stateOf s M) t d) n
+      uncounted-in (record { term = u; entries = M .entries; steps = suc (M .steps) }) (stateOf s M′) (t .0, is-due (stateOf s M) t d .1) n
 
 -- ---- A move of the code
 
@@ -170,13 +171,13 @@ module _ {sheet index question : List ℕ} {budget : ℕ} {first : List ℕ} {le
   abbrev r : Represents sheet index question mem m
   r = inv .represents
 
-  abbrev rules : Pieces s
+  abbrev pub rules : Pieces s
   rules = pieces sheet s (r .accepts)
 
   runs : Runs (context s) capacity budget (stateOf s M) whole
   runs = rw (inv .room) (inv .runs)
 
-  typed : Typed s sheet (r .accepts) capacity budget (base (r .type)) (stateOf s M)
+  pub typed : Typed s sheet (r .accepts) capacity budget (base (r .type)) (stateOf s M)
   unfolding stateOf
   typed = (rw (entries-are sheet question mem m (r .holds)) (store-in s (mem .store) (m .kept) _ (r .holds .stored) .entries-in), r .typed)
 
@@ -199,7 +200,7 @@ module _ {sheet index question : List ℕ} {budget : ℕ} {first : List ℕ} {le
     abbrev step : Stepped
     step = stepOf sheet index question budget limit skip packed mem m
 
-    matches : {st : Stepped} → step ≡ st → Matches sheet question capacity budget limit m M st
+    pub matches : {st : Stepped} → step ≡ st → Matches sheet question capacity budget limit m M st
     matches e = subst (Matches sheet question capacity budget limit m M) e (step-whole sheet index question budget limit skip packed mem m r width packs)
 
     module _ {m′ : Registers} {mem′ : Memory} (e : step ≡ goes m′ mem′) where
@@ -254,6 +255,6 @@ module _ {sheet index question : List ℕ} {budget : ℕ} {first : List ℕ} {le
 
 -- what the call brings: its store is the memory's at the end of its run
 pub final-outcome : {first : List ℕ} {kept : ℕ} {whole : Ended} {ending : Ending} {mem : Memory} {m : Registers} → Final first kept whole ending mem m
-    → outcome (lent first kept) whole ≡ record { answer = endedAnswer whole; store = mem .store }
+    → (taken : List Counted) → outcome (lent first kept) whole taken ≡ record { answer = endedAnswer whole; tally = tally taken; store = mem .store }
 unfolding outcome
-final-outcome f = rw (f .store-is)
+final-outcome f taken = rw (f .store-is)

@@ -3,7 +3,7 @@ use mathlib.Core.Bool.{Bool, true, false}
 use mathlib.Core.Bool as Bool
 use mathlib.Core.Option.{Option, none, some}
 use mathlib.Core.List.{List, [], _∷_}
-use mathlib.Core.Path.{_≡_, refl, _∙_}
+use mathlib.Core.Path.{_≡_, refl, ap, _∙_}
 use Prim.Native.Nat.{ℕ, suc}
 use lib.Dec.{ltb, eqb}
 use Rattle.saiga.specs.Values.{null, truth, nodeOf, apply}
@@ -13,7 +13,8 @@ use Rattle.saiga.specs.Expressions.{Expr, Head, base-literal, function-literal,
 use Rattle.saiga.specs.Sheet.{Sheet, Definition, undefined, figure, piece-of, definition, wholeExpr, definitionExpr, context}
 use Rattle.saiga.specs.Terms.{Occurrence, val, cond, app, attr, form, put}
 use Rattle.saiga.specs.Caching.{Entry, Running, kept, write, Counted, CondTrue, CondFalse, AppApp, AttrApp, null-node, spent, depth, Due, finished, counts, writes, halts, duePart, count, condRule, keptOr, tooDeep, attrApp, due, State, with-value, by, Ended, dueAt}
-use Rattle.saiga.specs.Runs.{Runs, ends-value, ends-by, goes-counted, goes-writing}
+use Rattle.saiga.specs.Runs.{Runs, Traces}
+use Rattle.saiga.proofs.RunEnds.{after, traces-after}
 use Rattle.saiga.proofs.Keeping.{write-kept}
 use Rattle.engine.specs.Machine.{Frame, on-if, on-left, on-skip, on-right, on-node, on-parameter, on-form, Mode, evaluating, returning, Machine, openForms, innermost, scopeIn, plug, termOf, stateOf, Move, finishes, moves, takes, stops, readHead, within, branch, defined, applied, attributeDue, give, readNext, moveOf, move, Next, by-move, by-step}
 use Rattle.engine.specs.Good.{Pieces, Ready, Good}
@@ -209,25 +210,18 @@ module _ (s : Sheet) (capacity budget : ℕ) where
 
   -- ---- Runs
 
-  -- an ended run after what is due at its state
-  abbrev After : State → Ended → Due → Type 0
-  After st end (finished v) = end ≡ record { ending = with-value v; entries = st .entries; steps = st .steps }
-  After st end (counts r t) = Runs (context s) capacity budget (record { term = t; entries = st .entries; steps = suc (st .steps) }) end
-  After st end (writes n t) = Runs (context s) capacity budget (record { term = t; entries = write capacity (st .entries) n; steps = st .steps }) end
-  After st end (halts r) = end ≡ record { ending = by r; entries = st .entries; steps = st .steps }
-
-  after : {st : State} {end : Ended} {d : Due} → Runs (context s) capacity budget st end → dueAt (context s) capacity budget st ≡ d → After st end d
-  after run e = rw e at (go run)
-    where
-      go : {st : State} {end : Ended} → Runs (context s) capacity budget st end → After st end (dueAt (context s) capacity budget st)
-      go (ends-value d) = rw d
-      go (ends-by d) = rw d
-      go (goes-counted d rest) = rw d rest
-      go (goes-writing d rest) = rw d rest
-
   uncounted : {st st′ : State} {end : Ended} → Runs (context s) capacity budget st end → Uncounted st st′ → Runs (context s) capacity budget st′ end
   uncounted run (same is) = rw is run
-  uncounted run (written e t d is) = rw is (after run d)
+  uncounted run (written e t d is) = rw is (after (context s) capacity budget run d)
+
+  traces-uncounted : {st st′ : State} {l : List Counted} → Traces (context s) capacity budget st l → Uncounted st st′
+      → Traces (context s) capacity budget st′ l
+  traces-uncounted trace (same is) = rw is trace
+  traces-uncounted trace (written e t d is) = rw is (traces-after (context s) capacity budget trace d)
+
+  steps-uncounted : {st st′ : State} → Uncounted st st′ → st′ .steps ≡ st .steps
+  steps-uncounted (same is) = ap (λ st. st .steps) is
+  steps-uncounted (written e t d is) = ap (λ st. st .steps) is
 
   -- an ended run after a move of the machine
   abbrev pub RunsOn : Machine → Ended → Move → Type 0
@@ -242,7 +236,43 @@ module _ (s : Sheet) (capacity budget : ℕ) where
   runs-on pieces m good {k} e {end} run = go k (rw e at (simulates pieces m good))
     where
       go : (k : Move) → Simulates (stateOf s m) k → RunsOn m end k
-      go (finishes v) d = after run d
+      go (finishes v) d = after (context s) capacity budget run d
       go (moves next) u = uncounted run u
-      go (takes r next) d = uncounted (after run (d .1)) (d .2)
-      go (stops r) d = after run d
+      go (takes r next) d = uncounted (after (context s) capacity budget run (d .1)) (d .2)
+      go (stops r) d = after (context s) capacity budget run d
+
+  -- its trace
+  abbrev pub TracesOn : List Counted → Move → Type 0
+  TracesOn l (finishes v) = l ≡ []
+  TracesOn l (moves next) = Traces (context s) capacity budget (stateOf s next) l
+  TracesOn l (takes r next) = (rest : List Counted) × (l ≡ r ∷ rest) × Traces (context s) capacity budget (stateOf s next) rest
+  TracesOn l (stops r) = l ≡ []
+
+  pub traces-on : Pieces s → (m : Machine) → Good s m → {k : Move} → move s capacity budget m ≡ k
+      → {l : List Counted} → Traces (context s) capacity budget (stateOf s m) l → TracesOn l k
+  traces-on pieces m good {k} e {l} trace = go k (rw e at (simulates pieces m good))
+    where
+      go : (k : Move) → Simulates (stateOf s m) k → TracesOn l k
+      go (finishes v) d = traces-after (context s) capacity budget trace d
+      go (moves next) u = traces-uncounted trace u
+      go (takes r next) d =
+          let (rest, is, on) = traces-after (context s) capacity budget trace (d .1) in
+          (rest, is, traces-uncounted on (d .2))
+      go (stops r) d = traces-after (context s) capacity budget trace d
+
+  -- the count of its steps
+  abbrev pub StepsOn : Machine → Move → Type 0
+  StepsOn m (finishes v) = Unit {0}
+  StepsOn m (moves next) = next .steps ≡ m .steps
+  StepsOn m (takes r next) = next .steps ≡ suc (m .steps)
+  StepsOn m (stops r) = Unit {0}
+
+  pub counts-on : Pieces s → (m : Machine) → Good s m → {k : Move} → move s capacity budget m ≡ k → StepsOn m k
+  unfolding stateOf
+  counts-on pieces m good {k} e = go k (rw e at (simulates pieces m good))
+    where
+      go : (k : Move) → Simulates (stateOf s m) k → StepsOn m k
+      go (finishes v) d = tt
+      go (moves next) u = steps-uncounted u
+      go (takes r next) d = steps-uncounted (d .2)
+      go (stops r) d = tt

@@ -10,3 +10,4 @@ pub mod Loop
 pub mod CodeSteps
 pub mod Cost
 pub mod Tracks
+pub mod Tallied

@@ -25,7 +25,7 @@ module _ {check : SheetCheck} {sheet index notes store : List ℕ} {kept : ℕ} 
       let same = refuses sheet (lent store kept) (asks question) r (refused-by-sheet sheet (lent store kept) (asks question) (sheet-refused (p .checked) e)) a in
       record {
         answer = same .0;
-        store-is = same .1;
+        store-is = same .2;
         prepared =
             record {
               checked = p .checked;

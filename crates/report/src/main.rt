@@ -6,6 +6,7 @@ use engine::RUN_SIZE;
 use saiga::limits::BUDGET_LIMIT;
 use saiga::limits::SHEET_LIMIT;
 use saiga::limits::STORE_LIMIT;
+use saiga::limits::TALLY_ROWS;
 use sheets::SheetCheck;
 use sheets::lookup::INDEX_SIZE;
 use stores::LINKS_SIZE;
@@ -102,17 +103,22 @@ fn ask<'a>(
 {
     match check {
         SheetCheck::Refused(number, place) => calls::refuse(number, place, kept),
-        SheetCheck::Accepted(_, _) => calls::ask_checked(
-            sheet,
-            index,
-            notes,
-            question,
-            store,
-            kept,
-            BUDGET_LIMIT,
-            links,
-            memory,
-        ),
+        SheetCheck::Accepted(_, _) => {
+            // A line has no tally.
+            let mut tally = [0u64; TALLY_ROWS];
+            calls::ask_checked(
+                sheet,
+                index,
+                notes,
+                question,
+                store,
+                kept,
+                BUDGET_LIMIT,
+                links,
+                memory,
+                &mut tally,
+            )
+        }
     }
 }
 

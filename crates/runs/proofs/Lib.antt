@@ -1,5 +1,6 @@
 pub mod Limits
 pub mod ReadyForAttributes
+pub mod Rows
 pub mod Giving
 pub mod Stepping
 pub mod Counting

@@ -136,7 +136,7 @@ module _ (sheet index notes question store links run : List ℕ) (budget limit :
               (rw (definition-at r gives some (by-key decoded) late no-form no-null-is, no-figure, no-rule)
               at (pair-defined sheet decoded (r .accepts) n a (o-in .node-declared) (o-in .attribute-declared)));
           kept-word = λ j found. word-more _ _ (r .index-of .described .nodes-bound)
-              (rw (attribute-is r gives some (by-key decoded) late no-form no-null-is)
+              (rw (attribute-is r gives some (by-key decoded) late no-form)
               at (kept-word decoded store (m .kept) _ (r .holds .stored) record { node = n; attribute = a; parameter = m .value } o-in j found));
           writes = write-ready (given .ready);
           step = record { frame = framed; counts = omega (arith, given .permitted) };

@@ -4,7 +4,7 @@ use mathlib.Core.Path.{_≡_, refl, sym, ap, _∙_}
 use Prim.Native.Nat.{ℕ, _≤_, _<_}
 use native.Mathlib.Omega.{arith}
 use lib.ListN.{length}
-use Rattle.saiga.specs.Caching.{Ended}
+use Rattle.saiga.specs.Caching.{Counted, Ended}
 use Rattle.stores.specs.Keys.{Linked}
 use Rattle.engine.specs.declared.Registers.{Registers}
 use Rattle.engine.specs.Steps.{Memory, Stepped, goes, stepOf}
@@ -14,31 +14,47 @@ use Rattle.engine.specs.Loop.{Invariant}
 use Rattle.engine.proofs.Loop.{invariant-on, invariant-falls, invariant-waits, invariant-finishes, invariant-stops}
 use Rattle.engine.specs.Cost.{measure}
 use Rattle.engine.proofs.Tracking.{tracks-on}
+use Rattle.engine.specs.Tallied.{dueRow, countedIn, rowsAfter, RowsWithin, Tallied}
+use Rattle.engine.proofs.Tallying.{rows-on, tallied-on, tallied-finishes, tallied-stops}
 use Rattle.engine.specs.declared.Step.{Step}
 use Rattle.engine.specs.declared.Step.the-variants.{Goes, Waits, Finishes, Stops}
 use Rattle.engine.specs.CodeSteps.{steppedOf, keptAfter}
 use Rattle.runs.specs.declared.RunEnd.the-variants as End
 use Rattle.runs.proofs.Counting.{counts-on}
-use Rattle.runs.specs.Moves.{StepsTo, Running, RunsTo}
+use Rattle.runs.specs.Moves.{StepsTo, Running, RunsTo, TalliesTo}
 
 module _ (sheet index notes question : List ℕ) (budget limit : ℕ) where
-  -- registers and memory, and those that the run began with
-  pub record Round (store₀ links₀ run₀ : List ℕ) (first : Registers) (store links run : List ℕ) (m : Registers) : Type 0 where
+  -- registers, memory and the rows of the tally, and those that the run began with
+  pub record Round (store₀ links₀ run₀ rows₀ : List ℕ) (first : Registers) (store links run rows : List ℕ) (m : Registers) : Type 0 where
     pub running : Running sheet index notes question budget store links run m
     pub on : (lent : List ℕ) (kept : ℕ) (whole : Ended) → Invariant sheet index question budget lent kept whole (memoryOf store₀ run₀) first
         → Invariant sheet index question budget lent kept whole (memoryOf store run) m
     pub counted : first .steps ≤ limit → m .steps ≤ limit
+    pub rows-within : RowsWithin (m .steps) rows
+    pub tallied : (all : List Counted) → Tallied sheet question budget all rows₀ (memoryOf store₀ run₀) first
+        → Tallied sheet question budget all rows (memoryOf store run) m
     pub store-size : length store ≡ length store₀
     pub links-size : length links ≡ length links₀
     pub run-size : length run ≡ length run₀
+    pub rows-size : length rows ≡ length rows₀
 
-  pub first-round : {store links run : List ℕ} {m : Registers} → Running sheet index notes question budget store links run m
-      → Round store links run m store links run m
-  first-round running =
-      record { running = running; on = λ lent kept whole i. i; counted = λ h. h; store-size = refl; links-size = refl; run-size = refl }
+  pub first-round : {store links run rows : List ℕ} {m : Registers} → Running sheet index notes question budget store links run m
+      → RowsWithin (m .steps) rows → Round store links run rows m store links run rows m
+  first-round running within =
+      record {
+        running = running;
+        on = λ lent kept whole i. i;
+        counted = λ h. h;
+        rows-within = within;
+        tallied = λ all t. t;
+        store-size = refl;
+        links-size = refl;
+        run-size = refl;
+        rows-size = refl;
+      }
 
-  module _ {store₀ links₀ run₀ : List ℕ} {first : Registers} {store links run : List ℕ} {m : Registers}
-      (round : Round store₀ links₀ run₀ first store links run m) where
+  module _ {store₀ links₀ run₀ rows₀ : List ℕ} {first : Registers} {store links run rows : List ℕ} {m : Registers}
+      (round : Round store₀ links₀ run₀ rows₀ first store links run rows m) where
     abbrev mem : Memory
     mem = memoryOf store run
 
@@ -51,6 +67,14 @@ module _ (sheet index notes question : List ℕ) (budget limit : ℕ) where
 
     pub run-stays : (run′ : List ℕ) → length run′ ≡ length run → length run′ ≡ length run₀
     run-stays run′ same = same ∙ round .run-size
+
+    pub rows-stay : (rows′ : List ℕ) → length rows′ ≡ length rows → length rows′ ≡ length rows₀
+    rows-stay rows′ same = same ∙ round .rows-size
+
+    -- No row is above the budget, as the steps are not.
+    pub rows-permitted : RowsWithin budget rows
+    rows-permitted =
+        record { size = round .rows-within .size; few = λ i. omega (arith, round .rows-within .few i, round .running .invariant .within) }
 
     module _ {store′ links′ : List ℕ} (run′ : List ℕ) {r : Step}
         (steps : StepsTo sheet index question budget limit mem (memoryOf store′ run′) links′ m r) where
@@ -72,10 +96,12 @@ module _ (sheet index notes question : List ℕ) (budget limit : ℕ) where
         pub round-less : measure budget (machineIn sheet question mem′ m′) < measure budget (machineIn sheet question mem m)
         round-less = invariant-falls (round .running .invariant) limit (steps .skip) (steps .packed) (steps .width) (steps .packs) goes-to
 
-        pub round-again : length store′ ≡ length store → length links′ ≡ length links → length run′ ≡ length run
-            → Round store₀ links₀ run₀ first store′ links′ run′ m′
-        unfolding keptAfter
-        round-again a b c =
+        pub round-again : (rows′ : List ℕ) → rows′ ≡ rowsAfter r (dueRow mem m) rows
+            → length store′ ≡ length store → length links′ ≡ length links → length run′ ≡ length run → length rows′ ≡ length rows
+            → Round store₀ links₀ run₀ rows₀ first store′ links′ run′ rows′ m′
+        unfolding keptAfter rowsAfter
+        round-again rows′ after a b c d =
+            let rows-are : rows′ ≡ countedIn (dueRow mem m) rows = rw is at after in
             let next : (lent : List ℕ) (kept : ℕ) (whole : Ended) → Invariant sheet index question budget lent kept whole mem m
             → Invariant sheet index question budget lent kept whole mem′ m′ =
             λ lent kept whole i. invariant-on i limit (steps .skip) (steps .packed) (steps .width) (steps .packs) goes-to in
@@ -93,9 +119,15 @@ module _ (sheet index notes question : List ℕ) (budget limit : ℕ) where
               };
               on = λ lent kept whole i. next lent kept whole (round .on lent kept whole i);
               counted = λ h. counts-on sheet index limit mem m question budget (steps .skip) (steps .packed) goes-to (round .counted h);
+              rows-within =
+                  rw rows-are (rows-on (round .running .invariant) limit (steps .skip) (steps .packed) (steps .width) (steps .packs) goes-to rows (round .rows-within));
+              tallied = λ all t.
+                  rw rows-are (tallied-on (round .running .invariant) limit (steps .skip) (steps .packed) (steps .width) (steps .packs) goes-to rows (round .rows-within)
+                  (round .tallied all t));
               store-size = a ∙ round .store-size;
               links-size = b ∙ round .links-size;
               run-size = c ∙ round .run-size;
+              rows-size = d ∙ round .rows-size;
             }
 
       module _ (lent : List ℕ) (kept : ℕ) (whole : Ended)
@@ -128,6 +160,28 @@ module _ (sheet index notes question : List ℕ) (budget limit : ℕ) where
         round-stops is =
             let same : mem′ ≡ mem = rw is at (steps .still) in
             rw same (invariant-stops now-holds limit (steps .skip) (steps .packed) (steps .width) (steps .packs) (came is))
+
+      -- the tally then: a move by which the run does not go on leaves its rows
+      module _ (rows′ : List ℕ) (after : rows′ ≡ rowsAfter r (dueRow mem m) rows) (all : List Counted)
+          (t : Tallied sheet question budget all rows₀ (memoryOf store₀ run₀) first) where
+        pub tally-pauses : r ≡ Waits → TalliesTo sheet question budget all mem′ rows′ (End.Pauses m)
+        unfolding rowsAfter
+        tally-pauses is =
+            let same : mem′ ≡ mem = rw is at (steps .still) in
+            let rows-are : rows′ ≡ rows = rw is at after in
+            rw rows-are record { within = round .rows-within; tallied = rw same (round .tallied all t) }
+
+        pub tally-finishes : r ≡ Finishes → TalliesTo sheet question budget all mem′ rows′ (End.Finishes m)
+        unfolding rowsAfter steppedOf
+        tally-finishes is =
+            (rw is at after)
+            ∙ tallied-finishes (round .running .invariant) limit (steps .skip) (steps .packed) (steps .width) (steps .packs) (round .rows-within) (round .tallied all t) (came is)
+
+        pub tally-stops : {number : ℕ} → r ≡ Stops number → TalliesTo sheet question budget all mem′ rows′ (End.Stops number m)
+        unfolding rowsAfter steppedOf
+        tally-stops is =
+            (rw is at after)
+            ∙ tallied-stops (round .running .invariant) limit (steps .skip) (steps .packed) (steps .width) (steps .packs) (round .rows-within) (round .tallied all t) (came is)
 
       -- the store's index then
       pub paused-linked : r ≡ Waits → Linked store′ (m .kept) links′

@@ -18,6 +18,7 @@ use Rattle.engine.proofs.ReadyForCode.{read-ready, frames-inside}
 use Rattle.engine.specs.declared.Step.{Step}
 use Rattle.engine.specs.declared.Step.the-variants.{Goes, Finishes}
 use Rattle.engine.specs.CodeSteps.{steppedOf, keptAfter, keptIn}
+use Rattle.engine.specs.Tallied.{wordRow, dueRow, countedIn, rowsAfter}
 use Rattle.runs.specs.Moves.{MoveReady, GivesTo, StepsTo}
 
 -- what a test chooses
@@ -111,3 +112,22 @@ module _ (sheet index notes question store links run : List ℕ) (budget limit :
         still = given .still;
         linked = given .linked;
       }
+
+  -- ---- The rows of the tally
+
+  module _ (rows : List ℕ) where
+    pub rows-reading : (after : Registers) → not (m .returning) ≡ true → rows ≡ rowsAfter (Goes after) (dueRow mem m) rows
+    unfolding rowsAfter dueRow countedIn
+    rows-reading after taken = rw (not-true (m .returning) taken)
+
+    pub rows-finishing : rows ≡ rowsAfter Finishes (dueRow mem m) rows
+    unfolding rowsAfter
+    rows-finishing = refl
+
+    pub rows-giving : (rows′ : List ℕ) (r : Step) → not (m .returning) ≡ false → (m .frames ≡ 0 → ⊥)
+        → rows′ ≡ rowsAfter r (wordRow (getD run (m .frames - 1) 0)) rows → rows′ ≡ rowsAfter r (dueRow mem m) rows
+    unfolding dueRow
+    rows-giving rows′ r gives some counted =
+        let inside = frames-inside run (due .ready .represents) in
+        rw (not-false (m .returning) gives, ne-eqb (m .frames) 0 some)
+        (rw (frame-at run (m .frames - 1) (omega arith)) at counted)

@@ -5,7 +5,8 @@ use mathlib.Core.Path.{_≡_}
 use Prim.Native.Nat.{ℕ, suc, _/_, _≤_, _<_}
 use lib.ListN.{length}
 use Rattle.saiga.specs.Limits.{entryWidth, expressionLimit, budgetLimit}
-use Rattle.saiga.specs.Caching.{with-value, Reason, by, Ended}
+use Rattle.saiga.specs.Caching.{Counted, with-value, Reason, by, Ended}
+use Rattle.saiga.specs.Tally.{tally}
 use Rattle.saiga.specs.Ask.{reasonNumber}
 use Rattle.expressions.specs.Noted.{WidthOf}
 use Rattle.engine.specs.RunningPiece.{restOf}
@@ -16,6 +17,7 @@ use Rattle.engine.specs.Represents.{Represents, PacksIn}
 use Rattle.engine.specs.Ready.{memoryOf}
 use Rattle.engine.specs.Loop.{Invariant, StepDue, Final}
 use Rattle.engine.specs.Tracks.{Tracks}
+use Rattle.engine.specs.Tallied.{RowsWithin, Tallied}
 use Rattle.engine.specs.declared.Step.{Step}
 use Rattle.engine.specs.declared.Step.the-variants.{Goes}
 use Rattle.engine.specs.CodeSteps.{steppedOf, keptAfter, Still}
@@ -94,3 +96,14 @@ module _ (sheet index notes question : List ℕ) (budget limit : ℕ) (lent : Li
   RunsTo (Pauses m) = Paused m
   RunsTo (Finishes m) = Final lent kept whole (with-value (m .value)) mem m
   RunsTo (Stops number m) = (reason : Reason) × (reasonNumber reason ≡ number) × Final lent kept whole (by reason) mem m
+
+-- The rows of such a run, whose steps are `all`: where it pauses those to come are still missing; where it has ended they are its tally.
+module _ (sheet question : List ℕ) (budget : ℕ) (all : List Counted) (mem : Memory) (rows : List ℕ) where
+  pub record TalliedAt (m : Registers) : Type 0 where
+    pub within : RowsWithin (m .steps) rows
+    pub tallied : Tallied sheet question budget all rows mem m
+
+  abbrev pub TalliesTo : RunEnd → Type 0
+  TalliesTo (Pauses m) = TalliedAt m
+  TalliesTo (Finishes m) = rows ≡ tally all
+  TalliesTo (Stops number m) = rows ≡ tally all

@@ -15,10 +15,10 @@ use Rattle.saiga.specs.Values.{Value, null}
 use Rattle.saiga.specs.Expressions.{Expr}
 use Rattle.saiga.specs.Terms.{Occurrence, val, cond, app, attr, form}
 use Rattle.saiga.specs.Plain.{Plain, on-null, plainStep, plainAt}
-use Rattle.saiga.specs.Caching.{Entry, Running, Due, finished, counts, writes, halts, Reason, null-node, spent, depth, duePart, count, attrApp, due, State, Ending, with-value, by, Ended, dueAt}
-use Rattle.saiga.specs.Runs.{Runs, ends-value, ends-by, goes-counted, goes-writing}
+use Rattle.saiga.specs.Caching.{Entry, Running, Counted, Due, finished, counts, writes, halts, Reason, null-node, spent, depth, duePart, count, attrApp, due, State, Ending, with-value, by, Ended, dueAt}
+use Rattle.saiga.specs.Runs.{Runs, ends-value, ends-by, goes-counted, goes-writing, Traces, none-value, none-by, one-counted, past-writing}
 use Rattle.saiga.proofs.Erasure.{erase, Right, Faithful, Seen, comes-on, step-first}
-use Rattle.saiga.proofs.RunEnds.{spent-used}
+use Rattle.saiga.proofs.RunEnds.{spent-used, after}
 use Rattle.saiga.proofs.Keeping.{seen-at, right-write}
 
 module _ (context : ℕ → ℕ → Expr) where
@@ -117,3 +117,14 @@ module _ (context : ℕ → ℕ → Expr) (capacity b b′ : ℕ) (more : b ≤ 
       goes-counted (same-due st (counts r t) d (λ e. let z : _≡_ {A = ℕ} 0 1 = cc in omega arith)) (larger-budget rest n)
   larger-budget {st} (goes-writing {n = e} {t} d rest) n =
       goes-writing (same-due st (writes e t) d (λ e. let z : _≡_ {A = ℕ} 0 1 = cc in omega arith)) (larger-budget rest n)
+
+  -- So is its trace.
+  pub larger-trace : {st : State} {l : List Counted} {end : Ended} → Traces context capacity b st l → Runs context capacity b st end
+      → (end .ending ≡ by spent → ⊥) → Traces context capacity b′ st l
+  larger-trace {st} (none-value {v} d) run n = none-value (same-due st (finished v) d (λ e. let z : _≡_ {A = ℕ} 0 1 = cc in omega arith))
+  larger-trace {st} (none-by {r} d) run n =
+      none-by (same-due st (halts r) d (λ e. n (let s : r ≡ spent = cc in ap (λ w. w .ending) (after context capacity b run d) ∙ ap by s)))
+  larger-trace {st} (one-counted {r} {t} d rest) run n =
+      one-counted (same-due st (counts r t) d (λ e. let z : _≡_ {A = ℕ} 0 1 = cc in omega arith)) (larger-trace rest (after context capacity b run d) n)
+  larger-trace {st} (past-writing {n = e} {t} d rest) run n =
+      past-writing (same-due st (writes e t) d (λ e. let z : _≡_ {A = ℕ} 0 1 = cc in omega arith)) (larger-trace rest (after context capacity b run d) n)

@@ -3,7 +3,7 @@ use mathlib.Core.Bool.{Bool, true, false, false≢true}
 use mathlib.Core.Bool as Bool
 use mathlib.Core.List.{List, _++_}
 use mathlib.Core.Option.{Option, none, some}
-use mathlib.Core.Path.{_≡_, refl, sym, _∙_, ap}
+use mathlib.Core.Path.{_≡_, refl, sym, _∙_, ap, ap₂}
 use Prim.Native.Nat.{ℕ, suc, _*_, _≤_, _<_, zero-le}
 use native.Mathlib.Omega.{arith}
 use borrow.Author.Tests.{le-leb, lt-leb, leb-true, leb-false}
@@ -15,9 +15,9 @@ use Rattle.saiga.specs.Expressions.{Expr, Whole, no-expression, expressi
 use Rattle.saiga.specs.Types.{infer}
 use Rattle.saiga.specs.Sheet.{Sheet, Checked, refused_at-place_, accepted, checkSheet, context, questionScope, nodeCount}
 use Rattle.saiga.specs.Plain.{plainAt}
-use Rattle.saiga.specs.Caching.{Entry, kept, spent, by, Ended, State}
+use Rattle.saiga.specs.Caching.{Entry, Counted, spent, by, Ended, State}
 use Rattle.saiga.specs.Store.{capacity, checkStore, leftStore}
-use Rattle.saiga.specs.Ask.{Lent, Call, asking, refusal, ofBaseType, checkType, checkQuestion, asked, outcome, runQuestion, _then-check_, checkBudget, AcceptedCall, checkCall, answered, ask}
+use Rattle.saiga.specs.Ask.{Lent, Call, asking, refusal, ofBaseType, checkType, checkQuestion, asked, outcome, first, runQuestion, traceQuestion, _then-check_, checkBudget, AcceptedCall, checkCall, answered, ask}
 use Rattle.saiga.specs.Calls.{leaves}
 use Rattle.saiga.specs.Sound.{ExprIn, EntryIn, All}
 use Rattle.saiga.proofs.Reading.{read-in}
@@ -25,16 +25,16 @@ use Rattle.saiga.proofs.Accepted.{accepted-sheet}
 use Rattle.saiga.proofs.Preservation.{put-in, EndedIn, run-in, all-right}
 use Rattle.saiga.proofs.Entries.{Appended, run-appends, store-in, left-passes, left-length}
 use Rattle.saiga.proofs.Erasure.{Right, faithful-put, erase-put}
-use Rattle.saiga.specs.Runs.{Runs}
-use Rattle.saiga.proofs.RunEnds.{measure, forms-put, run-ends, run-is}
-use Rattle.saiga.proofs.AgainstPlain.{Follows, follows, larger-budget}
+use Rattle.saiga.specs.Runs.{Runs, Traces}
+use Rattle.saiga.proofs.RunEnds.{measure, forms-put, run-ends, run-is, trace-ends, trace-is}
+use Rattle.saiga.proofs.AgainstPlain.{Follows, follows, larger-budget, larger-trace}
 use Rattle.saiga.proofs.Endings.{kept-field, spent-number}
 
 -- ---- A question as it runs
 
 module _ (s : Sheet) (cap budget : ℕ) (entries : List Entry) (e : Expr) where
-  abbrev pub start : State
-  start = record { term = asked e; entries = entries; steps = 0 }
+  abbrev start : State
+  start = first entries e
 
   pub question-runs : Runs (context s) cap budget start (runQuestion s cap budget entries e)
   unfolding runQuestion measure asked
@@ -45,6 +45,14 @@ module _ (s : Sheet) (cap budget : ℕ) (entries : List Entry) (e : Expr) where
   pub question-is : {end : Ended} → Runs (context s) cap budget start end → runQuestion s cap budget entries e ≡ end
   unfolding runQuestion measure asked
   question-is r = run-is (context s) cap budget r (suc (2 * budget)) (let f = forms-put 0 unit e in omega arith)
+
+  pub question-traces : Traces (context s) cap budget start (traceQuestion s cap budget entries e)
+  unfolding traceQuestion measure asked
+  question-traces = trace-ends (context s) cap budget (suc (2 * budget)) start (let f = forms-put 0 unit e in omega arith)
+
+  pub trace-question-is : {l : List Counted} → Traces (context s) cap budget start l → traceQuestion s cap budget entries e ≡ l
+  unfolding traceQuestion measure asked
+  trace-question-is r = trace-is (context s) cap budget r (suc (2 * budget)) (let f = forms-put 0 unit e in omega arith)
 
   -- what the question adds to the store
   pub question-appends : Appended cap entries (runQuestion s cap budget entries e .entries)
@@ -98,7 +106,9 @@ passed sheet m c {a} e =
 
 -- An accepted call is answered by its run.
 pub ask-runs : (sheet : List ℕ) (m : Lent) (c : Call) {a : AcceptedCall} → checkCall sheet m c ≡ accepted a
-    → ask sheet m c ≡ outcome m (runQuestion (a .sheet) (capacity (m .store)) (c .budget) (a .entries) (a .question))
+    → ask sheet m c
+    ≡ outcome m (runQuestion (a .sheet) (capacity (m .store)) (c .budget) (a .entries) (a .question))
+    (traceQuestion (a .sheet) (capacity (m .store)) (c .budget) (a .entries) (a .question))
 unfolding ask answered
 ask-runs sheet m c e = rw e
 
@@ -113,7 +123,8 @@ ask-refuses sheet m c e = rw e
 module _ (sheet : List ℕ) (s : Sheet) (ok : checkSheet sheet ≡ accepted s) where
   pub call-answered : (m : Lent) (entries : List Entry) (q : List ℕ) (budget : ℕ) (e : Expr) → checkStore s (m .store) (m .kept) ≡ accepted entries
       → budget ≤ budgetLimit → checkQuestion s q ≡ accepted e
-      → ask sheet m (asking q budget) ≡ outcome m (runQuestion s (capacity (m .store)) budget entries e)
+      → ask sheet m (asking q budget)
+      ≡ outcome m (runQuestion s (capacity (m .store)) budget entries e) (traceQuestion s (capacity (m .store)) budget entries e)
   unfolding ask checkCall answered checkBudget _then-check_
   call-answered m entries q budget e pass permitted form = rw (ok, pass, le-leb budget budgetLimit permitted, form)
 
@@ -142,6 +153,12 @@ module _ (sheet : List ℕ) (s : Sheet) (ok : checkSheet sheet ≡ accepted s) w
         question-is s (capacity (m .store)) b′ entries e
         (larger-budget (context s) (capacity (m .store)) b b′ more (question-runs s (capacity (m .store)) b entries e) n)
 
+    budget-trace : (entries : List Entry) (e : Expr) → (runQuestion s (capacity (m .store)) b entries e .ending ≡ by spent → ⊥)
+        → traceQuestion s (capacity (m .store)) b′ entries e ≡ traceQuestion s (capacity (m .store)) b entries e
+    budget-trace entries e n =
+        let k = capacity (m .store) in
+        trace-question-is s k b′ entries e (larger-trace (context s) k b b′ more (question-traces s k b entries e) (question-runs s k b entries e) n)
+
     pub budgets-agree : (ask sheet m (asking q b) .answer .number ≡ 15 → ⊥)
         → ask sheet m (asking q b′) ≡ ask sheet m (asking q b)
     unfolding outcome
@@ -153,8 +170,10 @@ module _ (sheet : List ℕ) (s : Sheet) (ok : checkSheet sheet ≡ accepted s) w
             call-malformed m entries q b′ number place pass permitted form ∙ sym (call-malformed m entries q b number place pass (omega (arith, more, permitted)) form)
         asked-of entries pass (accepted e) form =
             let small = call-answered m entries q b e pass (omega (arith, more, permitted)) form in
+            let unspent : runQuestion s (capacity (m .store)) b entries e .ending ≡ by spent → ⊥ =
+            λ h. n (ap (λ o. o .answer .number) small ∙ spent-number _ h) in
             call-answered m entries q b′ e pass permitted form
-            ∙ ap (outcome m) (budget-run entries e (λ h. n (ap (λ o. o .answer .number) small ∙ spent-number _ h)))
+            ∙ ap₂ (outcome m) (budget-run entries e unspent) (budget-trace entries e unspent)
             ∙ sym small
 
         stored : (c : Checked (List Entry)) → checkStore s (m .store) (m .kept) ≡ c

@@ -19,6 +19,7 @@ use Rattle.saiga.specs.Caching.{Entry, Running, kept, isKept, write, Cou
 use Rattle.saiga.specs.Runs.{Runs, ends-value, ends-by, goes-counted, goes-writing}
 use Rattle.saiga.proofs.Erasure.{erase, Yields, Right, Faithful, Seen, seen}
 use Rattle.saiga.proofs.PlainFacts.{final-value, final-null, one-end, one-value}
+use Rattle.saiga.proofs.RunEnds.{after}
 use Rattle.saiga.proofs.Depth.{not-deep-kept, not-deep-few}
 use Rattle.saiga.proofs.Keeping.{write-kept, write-full, write-alike, kept-write, kept-run, right-write, seen-at}
 
@@ -241,22 +242,6 @@ module _ (context : ℕ → ℕ → Expr) (s S : List Entry) (within : Contained
 -- ---- Runs
 
 module _ (context : ℕ → ℕ → Expr) (C budget : ℕ) where
-  -- an ended run after what is due at its state
-  abbrev After : State → Ended → Due → Type 0
-  After st end (finished v) = end ≡ record { ending = with-value v; entries = st .entries; steps = st .steps }
-  After st end (counts r t) = Runs context C budget (record { term = t; entries = st .entries; steps = suc (st .steps) }) end
-  After st end (writes n t) = Runs context C budget (record { term = t; entries = write C (st .entries) n; steps = st .steps }) end
-  After st end (halts r) = end ≡ record { ending = by r; entries = st .entries; steps = st .steps }
-
-  after : {st : State} {end : Ended} {d : Due} → Runs context C budget st end → dueAt context C budget st ≡ d → After st end d
-  after {st} {end} run e = rw e at (go run)
-    where
-      go : {st : State} {end : Ended} → Runs context C budget st end → After st end (dueAt context C budget st)
-      go (ends-value d) = rw d
-      go (ends-by d) = rw d
-      go (goes-counted d rest) = rw d rest
-      go (goes-writing d rest) = rw d rest
-
   -- A full store stands still.
   stands : {st : State} {end : Ended} → Runs context C budget st end → C ≤ length (st .entries) → end .entries ≡ st .entries
   stands (ends-value d) full = refl

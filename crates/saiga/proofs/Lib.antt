@@ -3,6 +3,7 @@ pub mod Misreadings
 pub mod TableStops
 pub mod TableStores
 pub mod TableTypes
+pub mod TableTally
 pub mod FourBytes
 pub mod Equality
 pub mod Inference
@@ -13,6 +14,7 @@ pub mod PlainFacts
 pub mod Erasure
 pub mod RunEnds
 pub mod Keeping
+pub mod Tally
 pub mod Depth
 pub mod Larger
 pub mod Preservation
@@ -20,5 +22,6 @@ pub mod Entries
 pub mod AgainstPlain
 pub mod Endings
 pub mod Calls
+pub mod Tallies
 pub mod Safety
 pub mod Demand3

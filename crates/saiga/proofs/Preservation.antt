@@ -15,8 +15,8 @@ use Rattle.saiga.specs.Expressions.{Expr, Scope}
 use Rattle.saiga.specs.Types.{Attribute, attributeAt}
 use Rattle.saiga.specs.Terms.{Occurrence, put}
 use Rattle.saiga.specs.Plain.{Plain, PlainStep, is-value, steps-to, on-null, stepPart, plainAttribute, plainStep, plainAt}
-use Rattle.saiga.specs.Caching.{Entry, sameOccurrence, kept, isKept, write, Running, Counted, AppApp, Reason, null-node, spent, depth, Due, finished, counts, writes, halts, duePart, count, keptOr, tooDeep, attrApp, due, State, with-value, by, Ended, dueAt, run}
-use Rattle.saiga.specs.Runs.{Reaches, at-first, by-counted, by-writing}
+use Rattle.saiga.specs.Caching.{Entry, sameOccurrence, kept, isKept, write, Running, Counted, CondTrue, CondFalse, AppApp, AttrApp, Reason, null-node, spent, depth, Due, finished, counts, writes, halts, duePart, count, condRule, keptOr, tooDeep, attrApp, due, State, with-value, by, Ended, dueAt, run}
+use Rattle.saiga.specs.Runs.{Reaches, at-first, by-counted, by-writing, Traces, none-value, none-by, one-counted, past-writing}
 use Rattle.saiga.specs.Sound.{IsA, ValueIn, ExprIn, literal∈, if∈, application∈, attribute∈, this∈, parameter∈, OccurrenceIn, EntryIn, All, all-none, all-cons, TermIn, PlainIn, RunningIn, val∈, cond∈, app∈, attr∈, form∈, ContextIn}
 use Rattle.saiga.proofs.FourBytes.{held-in, bool-in}
 use Rattle.saiga.proofs.Equality.{same-occurrence}
@@ -180,9 +180,16 @@ module _ (nodes : ℕ) (sig : List Attribute) where
 
 -- ---- What is due
 
+-- the rule of a counted step: AttrApp is of a declared attribute
+abbrev pub RuleIn : List Attribute → Counted → Type 0
+RuleIn sig CondTrue = Unit {0}
+RuleIn sig CondFalse = Unit {0}
+RuleIn sig AppApp = Unit {0}
+RuleIn sig (AttrApp a) = a < length sig
+
 abbrev pub DueIn : ℕ → List Attribute → Ty → Due → Type 0
 DueIn nodes sig T (finished v) = ValueIn nodes T v
-DueIn nodes sig T (counts r t) = RunningIn nodes sig t T
+DueIn nodes sig T (counts r t) = RuleIn sig r × RunningIn nodes sig t T
 DueIn nodes sig T (writes e t) = EntryIn nodes sig e × RunningIn nodes sig t T
 DueIn nodes sig T (halts r) = Unit {0}
 
@@ -192,13 +199,18 @@ module _ (nodes : ℕ) (sig : List Attribute) where
       → DueIn nodes sig T (duePart inside after d)
   unfolding duePart
   part-in inside after (finished v) h f g = g v h
-  part-in inside after (counts r t) h f g = f t h
+  part-in inside after (counts r t) h f g = (h .0, f t (h .1))
   part-in inside after (writes e t) h f g = (h .0, f t (h .1))
   part-in inside after (halts r) h f g = tt
 
-  count-in : {T : Ty} {t : Running} (b : Bool) (r : Counted) → RunningIn nodes sig t T → DueIn nodes sig T (count b r t)
+  count-in : {T : Ty} {t : Running} (b : Bool) (r : Counted) → RuleIn sig r → RunningIn nodes sig t T → DueIn nodes sig T (count b r t)
   unfolding count
-  count-in {T} {t} b r h = either (DueIn nodes sig T) b {x = counts r t} {y = halts spent} (λ _. h) (λ _. tt)
+  count-in {T} {t} b r rule h = either (DueIn nodes sig T) b {x = counts r t} {y = halts spent} (λ _. (rule, h)) (λ _. tt)
+
+  cond-rule-in : (b : Bool) → RuleIn sig (condRule b)
+  unfolding condRule
+  cond-rule-in true = tt
+  cond-rule-in false = tt
 
   module _ (context : ℕ → ℕ → Expr) (c : ContextIn nodes sig context) (s : List Entry) (all : All (EntryIn nodes sig) s) (b : Bool) where
     -- what AttrApp puts into a form, a kept value or σ
@@ -216,7 +228,7 @@ module _ (nodes : ℕ) (sig : List Attribute) where
         either D (eqb (nodeOf v) null) {x = halts null-node} (λ _. tt)
         (λ q. either D b {y = halts spent}
         (λ _. either D (tooDeep s os _) {x = halts depth} (λ _. tt)
-        (λ _. let o = due-occurrence nodes sig v a x ha hv hx q in form∈ (o, refl) (keptOr-in _ o _ refl)))
+        (λ _. let o = due-occurrence nodes sig v a x ha hv hx q in (ha, form∈ (o, refl) (keptOr-in _ o _ refl))))
         (λ _. tt))
       where
         D : Due → Type 0
@@ -227,11 +239,11 @@ module _ (nodes : ℕ) (sig : List Attribute) where
     due-in os _ T (val∈ h) = h
     due-in os _ T (cond∈ {c = c} {t = t} {e = e} hc ht he) =
         part-in _ _ (due context s b os c) (due-in os _ _ hc) (λ _ h. cond∈ h ht he)
-        (λ v h. count-in b _ (either (λ u. RunningIn nodes sig u T) (truth v) (λ _. ht) (λ _. he)))
+        (λ v h. count-in b _ (cond-rule-in (truth v)) (either (λ u. RunningIn nodes sig u T) (truth v) (λ _. ht) (λ _. he)))
     due-in os _ T (app∈ {f = f} {x = x} {B = B} hf hx) =
         part-in _ _ (due context s b os f) (due-in os _ _ hf) (λ _ h. app∈ h hx)
         (λ v hv. part-in _ _ (due context s b os x) (due-in os _ _ hx) (λ _ h. app∈ (val∈ hv) h)
-        (λ w hw. count-in b AppApp (val∈ (apply-in nodes B T v w hv hw))))
+        (λ w hw. count-in b AppApp tt (val∈ (apply-in nodes B T v w hv hw))))
     due-in os _ _ (attr∈ {n = n} {x = x} {a = a} ha hn hx) =
         part-in _ _ (due context s b os n) (due-in os _ _ hn) (λ _ h. attr∈ ha h hx)
         (λ v hv. part-in _ _ (due context s b os x) (due-in os _ _ hx) (λ _ h. attr∈ ha (val∈ hv) h)
@@ -278,11 +290,18 @@ module _ (nodes : ℕ) (sig : List Attribute) (context : ℕ → ℕ → Expr) (
 
   counted-in : (st : State) → StateIn nodes sig T st → {r : Counted} {t : Running} → dueAt context capacity budget st ≡ counts r t
       → StateIn nodes sig T record { term = t; entries = st .entries; steps = suc (st .steps) }
-  counted-in st h e = record { entries-in = h .entries-in; term-in = due-at-in st h e }
+  counted-in st h e = record { entries-in = h .entries-in; term-in = due-at-in st h e .1 }
 
   writing-in : (st : State) → StateIn nodes sig T st → {n : Entry} {t : Running} → dueAt context capacity budget st ≡ writes n t
       → StateIn nodes sig T record { term = t; entries = write capacity (st .entries) n; steps = st .steps }
   writing-in st h e = record { entries-in = write-in capacity (h .entries-in) (due-at-in st h e .0); term-in = due-at-in st h e .1 }
+
+  -- The rules of the steps that it counts.
+  pub traces-in : {st : State} {l : List Counted} → Traces context capacity budget st l → StateIn nodes sig T st → All (RuleIn sig) l
+  traces-in (none-value e) h = all-none
+  traces-in (none-by e) h = all-none
+  traces-in (one-counted {st} e rest) h = all-cons (due-at-in st h e .0) (traces-in rest (counted-in st h e))
+  traces-in (past-writing {st} e rest) h = traces-in rest (writing-in st h e)
 
   -- every state that a run comes to
   pub reaches-in : {first st : State} → Reaches context capacity budget first st → StateIn nodes sig T first → StateIn nodes sig T st

@@ -3,7 +3,7 @@ use mathlib.Core.Bool.{Bool, true, false}
 use mathlib.Core.Bool as Bool
 use mathlib.Core.Option.{Option, none, some}
 use mathlib.Core.List.{List, [], _∷_}
-use mathlib.Core.Path.{_≡_, refl, sym}
+use mathlib.Core.Path.{_≡_, refl, sym, ap, _∙_}
 use Prim.Native.Nat.{ℕ, zero, suc, _+_, _*_, _-_, _≤_, _<_, zero-le}
 use native.Mathlib.Nat.{le-of-eq}
 use native.Mathlib.Numerals.{add-one}
@@ -13,8 +13,9 @@ use lib.Dec.{ltb, eqb}
 use Rattle.saiga.specs.Values.{Value, null, truth}
 use Rattle.saiga.specs.Expressions.{Expr, literal, if, application, attribute, this, parameter}
 use Rattle.saiga.specs.Terms.{Occurrence, val, cond, app, attr, form, put}
-use Rattle.saiga.specs.Caching.{Entry, Running, kept, keptOr, write, Due, finished, counts, writes, halts, Counted, AttrApp, Reason, null-node, spent, depth, duePart, count, tooDeep, attrApp, due, State, Ended, dueAt, run}
-use Rattle.saiga.specs.Runs.{Runs, ends-value, ends-by, goes-counted, goes-writing}
+use Rattle.saiga.specs.Caching.{Entry, Running, kept, keptOr, write, Due, finished, counts, writes, halts, Counted, AttrApp, Reason, null-node, spent, depth, duePart, count, tooDeep, attrApp, due, State, with-value, by, Ended, dueAt, run}
+use Rattle.saiga.specs.Tally.{trace}
+use Rattle.saiga.specs.Runs.{Runs, ends-value, ends-by, goes-counted, goes-writing, Traces, none-value, none-by, one-counted, past-writing}
 
 -- ---- What falls
 
@@ -153,28 +154,113 @@ module _ (context : ℕ → ℕ → Expr) (capacity budget : ℕ) where
       go : Falls (ltb (st .steps) budget) (forms (st .term)) (halts spent) → budget ≤ st .steps
       go (falls-halts h) = ltb-false (st .steps) budget h
 
-  -- With more fuel than the measure the run is a finished one, and the finished run is that one.
+  -- ---- What follows what is due
+
+  -- an ended run, and its trace, after what is due at its state
+  abbrev pub After : State → Ended → Due → Type 0
+  After st end (finished v) = end ≡ record { ending = with-value v; entries = st .entries; steps = st .steps }
+  After st end (counts r t) = Runs context capacity budget (record { term = t; entries = st .entries; steps = suc (st .steps) }) end
+  After st end (writes n t) = Runs context capacity budget (record { term = t; entries = write capacity (st .entries) n; steps = st .steps }) end
+  After st end (halts r) = end ≡ record { ending = by r; entries = st .entries; steps = st .steps }
+
+  pub after : {st : State} {end : Ended} {d : Due} → Runs context capacity budget st end → dueAt context capacity budget st ≡ d → After st end d
+  after run e = rw e at (go run)
+    where
+      go : {st : State} {end : Ended} → Runs context capacity budget st end → After st end (dueAt context capacity budget st)
+      go (ends-value d) = rw d
+      go (ends-by d) = rw d
+      go (goes-counted d rest) = rw d rest
+      go (goes-writing d rest) = rw d rest
+
+  abbrev pub TracesAfter : State → List Counted → Due → Type 0
+  TracesAfter st l (finished v) = l ≡ []
+  TracesAfter st l (counts r t) =
+      (rest : List Counted) × (l ≡ r ∷ rest) × Traces context capacity budget (record { term = t; entries = st .entries; steps = suc (st .steps) }) rest
+  TracesAfter st l (writes n t) = Traces context capacity budget (record { term = t; entries = write capacity (st .entries) n; steps = st .steps }) l
+  TracesAfter st l (halts r) = l ≡ []
+
+  pub traces-after : {st : State} {l : List Counted} {d : Due} → Traces context capacity budget st l → dueAt context capacity budget st ≡ d
+      → TracesAfter st l d
+  traces-after run e = rw e at (go run)
+    where
+      go : {st : State} {l : List Counted} → Traces context capacity budget st l → TracesAfter st l (dueAt context capacity budget st)
+      go (none-value d) = rw d
+      go (none-by d) = rw d
+      go (one-counted d rest) = rw d (_, refl, rest)
+      go (past-writing d rest) = rw d rest
+
+  -- ---- Fuel
+
+  -- Along the run: what holds of fuel and a state if it holds, with one less, of the state that follows what is due.
+  abbrev Following : (ℕ → State → Type 0) → ℕ → State → Due → Type 0
+  Following P k st (finished v) = Unit {0}
+  Following P k st (counts r t) = P k record { term = t; entries = st .entries; steps = suc (st .steps) }
+  Following P k st (writes n t) = P k record { term = t; entries = write capacity (st .entries) n; steps = st .steps }
+  Following P k st (halts r) = Unit {0}
+
+  -- More fuel than the measure suffices.
+  along : (P : ℕ → State → Type 0)
+      → ((k : ℕ) (st : State) (d : Due) → dueAt context capacity budget st ≡ d → Following P k st d → P (suc k) st)
+      → (k : ℕ) (st : State) → measure st < k → P k st
+  along P step zero st h = absurd (omega arith)
+  along P step (suc k) st h = step k st (dueAt context capacity budget st) refl (go (dueAt context capacity budget st) (falls-at st) (along P step k))
+    where
+      go : (d : Due) → Falls (ltb (st .steps) budget) (forms (st .term)) d → ((st′ : State) → measure st′ < k → P k st′) → Following P k st d
+      go (finished v) f rest = tt
+      go (counts r t) f rest = rest _ (omega (arith, h, counted-falls st t r f))
+      go (writes n t) f rest = rest _ (omega (arith, h, writing-falls st t n (write capacity (st .entries) n) f))
+      go (halts r) f rest = tt
+
+  -- With it the run is a finished one, and the finished run is that one.
   pub run-ends : (k : ℕ) (st : State) → measure st < k → Runs context capacity budget st (run context capacity budget k st)
   unfolding run
-  run-ends zero st h = absurd (omega arith)
-  run-ends (suc k) st h = go (dueAt context capacity budget st) refl (falls-at st) (run-ends k)
+  run-ends = along Ends step
     where
-      go : (d : Due) → dueAt context capacity budget st ≡ d → Falls (ltb (st .steps) budget) (forms (st .term)) d
-          → ((st′ : State) → measure st′ < k → Runs context capacity budget st′ (run context capacity budget k st′))
-          → Runs context capacity budget st (run context capacity budget (suc k) st)
-      go (finished v) e f rest = rw (e, run) (ends-value e)
-      go (counts r t) e f rest = rw (e, run) (goes-counted e (rest _ (omega (arith, h, counted-falls st t r f))))
-      go (writes n t) e f rest = rw (e, run) (goes-writing e (rest _ (omega (arith, h, writing-falls st t n (write capacity (st .entries) n) f))))
-      go (halts r) e f rest = rw (e, run) (ends-by e)
+      Ends : ℕ → State → Type 0
+      Ends k st = Runs context capacity budget st (run context capacity budget k st)
+
+      step : (k : ℕ) (st : State) (d : Due) → dueAt context capacity budget st ≡ d → Following Ends k st d → Ends (suc k) st
+      step k st (finished v) e next = rw (e, run) (ends-value e)
+      step k st (counts r t) e next = rw (e, run) (goes-counted e next)
+      step k st (writes n t) e next = rw (e, run) (goes-writing e next)
+      step k st (halts r) e next = rw (e, run) (ends-by e)
 
   pub run-is : {st : State} {end : Ended} → Runs context capacity budget st end → (k : ℕ) → measure st < k → run context capacity budget k st ≡ end
   unfolding run
-  run-is (ends-value e) zero h = absurd (omega arith)
-  run-is (ends-value e) (suc k) h = rw (e, run)
-  run-is (ends-by e) zero h = absurd (omega arith)
-  run-is (ends-by e) (suc k) h = rw (e, run)
-  run-is (goes-counted e rest) zero h = absurd (omega arith)
-  run-is {st} (goes-counted {r} {t} e rest) (suc k) h = rw (e, run) (run-is rest k (omega (arith, counted-falls st t r (rw e at (falls-at st)))))
-  run-is (goes-writing e rest) zero h = absurd (omega arith)
-  run-is {st} (goes-writing {n} {t} e rest) (suc k) h =
-      rw (e, run) (run-is rest k (omega (arith, writing-falls st t n (write capacity (st .entries) n) (rw e at (falls-at st)))))
+  run-is {st} {end} r k h = along Is step k st h end r
+    where
+      Is : ℕ → State → Type 0
+      Is k st = (end : Ended) → Runs context capacity budget st end → run context capacity budget k st ≡ end
+
+      step : (k : ℕ) (st : State) (d : Due) → dueAt context capacity budget st ≡ d → Following Is k st d → Is (suc k) st
+      step k st (finished v) e next end r = rw (e, run) (sym (after r e))
+      step k st (counts c t) e next end r = rw (e, run) (next end (after r e))
+      step k st (writes n t) e next end r = rw (e, run) (next end (after r e))
+      step k st (halts c) e next end r = rw (e, run) (sym (after r e))
+
+  -- So it is with the trace.
+  pub trace-ends : (k : ℕ) (st : State) → measure st < k → Traces context capacity budget st (trace context capacity budget k st)
+  unfolding trace
+  trace-ends = along Ends step
+    where
+      Ends : ℕ → State → Type 0
+      Ends k st = Traces context capacity budget st (trace context capacity budget k st)
+
+      step : (k : ℕ) (st : State) (d : Due) → dueAt context capacity budget st ≡ d → Following Ends k st d → Ends (suc k) st
+      step k st (finished v) e next = rw (e, trace) (none-value e)
+      step k st (counts r t) e next = rw (e, trace) (one-counted e next)
+      step k st (writes n t) e next = rw (e, trace) (past-writing e next)
+      step k st (halts r) e next = rw (e, trace) (none-by e)
+
+  pub trace-is : {st : State} {l : List Counted} → Traces context capacity budget st l → (k : ℕ) → measure st < k → trace context capacity budget k st ≡ l
+  unfolding trace
+  trace-is {st} {l} r k h = along Is step k st h l r
+    where
+      Is : ℕ → State → Type 0
+      Is k st = (l : List Counted) → Traces context capacity budget st l → trace context capacity budget k st ≡ l
+
+      step : (k : ℕ) (st : State) (d : Due) → dueAt context capacity budget st ≡ d → Following Is k st d → Is (suc k) st
+      step k st (finished v) e next l r = rw (e, trace) (sym (traces-after r e))
+      step k st (counts c t) e next l r = let (rest, is, on) = traces-after r e in rw (e, trace) (ap (λ l. c ∷ l) (next rest on) ∙ sym is)
+      step k st (writes n t) e next l r = rw (e, trace) (next l (traces-after r e))
+      step k st (halts c) e next l r = rw (e, trace) (sym (traces-after r e))

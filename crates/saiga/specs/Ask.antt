@@ -4,15 +4,16 @@ use mathlib.Core.Option.{Option, none, some}
 use mathlib.Core.List.{List}
 use Prim.Native.Nat.{ℕ, suc, _*_}
 use lib.Dec.{leb}
-use lib.ListN.{length}
+use lib.ListN.{length, replicate}
 use lib.IntN.{ℤ, pos}
-use Rattle.saiga.specs.Limits.{budgetLimit}
+use Rattle.saiga.specs.Limits.{budgetLimit, tallyRows}
 use Rattle.saiga.specs.Values.{unitT, Ty, base, _⇒_, unit, typeCode, decimal}
 use Rattle.saiga.specs.Expressions.{Expr, Whole, no-expression, expression, readWhole}
 use Rattle.saiga.specs.Types.{infer}
 use Rattle.saiga.specs.Sheet.{Sheet, Checked, refused_at-place_, accepted, checkSheet, questionScope, context}
 use Rattle.saiga.specs.Terms.{Term, put}
-use Rattle.saiga.specs.Caching.{Entry, Reason, null-node, spent, depth, Ending, with-value, by, Ended, run}
+use Rattle.saiga.specs.Caching.{Entry, Counted, Reason, null-node, spent, depth, State, with-value, by, Ended, run}
+use Rattle.saiga.specs.Tally.{trace, tally}
 use Rattle.saiga.specs.Store.{capacity, checkStore, leftStore}
 
 -- ---- What a call has, and what it brings
@@ -42,16 +43,18 @@ pub record Answer : Type 0 where
   pub steps : ℕ
   pub kept : ℕ
 
--- What a call brings: its answer and every byte of the store.
+-- What a call brings: its answer, "a tally with each answer" (F-2 of document 02) and every byte of the store.
 pub record Outcome : Type 0 where
   pub answer : Answer
+  pub tally : List ℕ
   pub store : List ℕ
 
--- "Under 1 to 13 steps are 0 and kept and store are as lent."
+-- "Under 1 to 13 steps are 0 and kept and store are as lent"; "1 to 13 bring zeros" (F-2).
 unfoldable pub refusal : Lent → ℕ → ℕ → Outcome
 refusal m number place =
     record {
       answer = record { number = number; place = place; type = 0; value = pos 0; steps = 0; kept = m .kept };
+      tally = replicate tallyRows 0;
       store = m .store;
     }
 
@@ -86,12 +89,20 @@ endedAnswer end =
       | by reason ↦ record { number = reasonNumber reason; place = 0; type = 0; value = pos 0; steps = end .steps; kept = kept }
     ]
 
-unfoldable pub outcome : Lent → Ended → Outcome
-outcome m end = record { answer = endedAnswer end; store = leftStore (m .store) (m .kept) (end .entries) }
+-- "Stops 14 to 16 bring the tally so far" (F-2): `taken` are the rules of the steps that were counted.
+unfoldable pub outcome : Lent → Ended → List Counted → Outcome
+outcome m end taken =
+    record { answer = endedAnswer end; tally = tally taken; store = leftStore (m .store) (m .kept) (end .entries) }
+
+-- The run of a question, and the steps that it counts.
+abbrev pub first : List Entry → Expr → State
+first entries e = record { term = asked e; entries = entries; steps = 0 }
 
 unfoldable pub runQuestion : Sheet → ℕ → ℕ → List Entry → Expr → Ended
-runQuestion s capacity budget entries e =
-    run (context s) capacity budget (suc (2 * budget)) record { term = asked e; entries = entries; steps = 0 }
+runQuestion s capacity budget entries e = run (context s) capacity budget (suc (2 * budget)) (first entries e)
+
+unfoldable pub traceQuestion : Sheet → ℕ → ℕ → List Entry → Expr → List Counted
+traceQuestion s capacity budget entries e = trace (context s) capacity budget (suc (2 * budget)) (first entries e)
 
 -- ---- The checks of a call
 
@@ -125,7 +136,9 @@ checkCall sheet m c =
 -- A call that is refused, or that runs.
 unfoldable pub answered : Lent → Call → Checked AcceptedCall → Outcome
 answered m c (refused number at-place place) = refusal m number place
-answered m c (accepted a) = outcome m (runQuestion (a .sheet) (capacity (m .store)) (c .budget) (a .entries) (a .question))
+answered m c (accepted a) =
+    outcome m (runQuestion (a .sheet) (capacity (m .store)) (c .budget) (a .entries) (a .question))
+    (traceQuestion (a .sheet) (capacity (m .store)) (c .budget) (a .entries) (a .question))
 
 -- A question call: the sheet's bytes, what is lent, and the question with its budget.
 unfoldable pub ask : List ℕ → Lent → Call → Outcome

@@ -9,12 +9,14 @@ pub mod Terms
 pub mod Plain
 pub mod Caching
 pub mod Depth
+pub mod Tally
 pub mod Runs
 pub mod Sound
 pub mod Store
 pub mod Ask
 pub mod Safety
 pub mod Calls
+pub mod Tallies
 pub mod Demand3
 pub mod TableL
 pub mod Rows
@@ -22,3 +24,4 @@ pub mod Misreadings
 pub mod TableStops
 pub mod TableStores
 pub mod TableTypes
+pub mod TableTally

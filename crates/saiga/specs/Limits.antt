@@ -46,3 +46,15 @@ budgetLimit = 1000000
 -- "AttrApp due inside 64 open forms"
 abbrev pub depthLimit : ℕ
 depthLimit = 64
+
+-- ---- The tally (F-2 of document 02)
+
+-- "It has 34 rows: the AttrApp steps for each of the 32 attribute numbers, the AppApp steps, and CondTrue with CondFalse together."
+abbrev pub tallyRows : ℕ
+tallyRows = 34
+
+abbrev pub applicationsRow : ℕ
+applicationsRow = 32
+
+abbrev pub conditionsRow : ℕ
+conditionsRow = 33

@@ -1,4 +1,5 @@
 -- Runs as relations, step by step.
+use mathlib.Core.List.{List, [], _∷_}
 use mathlib.Core.Path.{_≡_}
 use Prim.Native.Nat.{ℕ, suc}
 use Rattle.saiga.specs.Values.{Value}
@@ -24,3 +25,14 @@ pub data Runs (context : ℕ → ℕ → Expr) (capacity budget : ℕ) : State �
   goes-writing : {st : State} {n : Entry} {t : Running} {e : Ended} → dueAt context capacity budget st ≡ writes n t
       → Runs context capacity budget (record { term = t; entries = write capacity (st .entries) n; steps = st .steps }) e
       → Runs context capacity budget st e
+
+-- The rules of the steps that such a run counts. The trace of a call is one (RunEnds.antt).
+pub data Traces (context : ℕ → ℕ → Expr) (capacity budget : ℕ) : State → List Counted → Type 0 where
+  none-value : {st : State} {v : Value} → dueAt context capacity budget st ≡ finished v → Traces context capacity budget st []
+  none-by : {st : State} {r : Reason} → dueAt context capacity budget st ≡ halts r → Traces context capacity budget st []
+  one-counted : {st : State} {r : Counted} {t : Running} {l : List Counted} → dueAt context capacity budget st ≡ counts r t
+      → Traces context capacity budget (record { term = t; entries = st .entries; steps = suc (st .steps) }) l
+      → Traces context capacity budget st (r ∷ l)
+  past-writing : {st : State} {n : Entry} {t : Running} {l : List Counted} → dueAt context capacity budget st ≡ writes n t
+      → Traces context capacity budget (record { term = t; entries = write capacity (st .entries) n; steps = st .steps }) l
+      → Traces context capacity budget st l

@@ -11,16 +11,16 @@ use Rattle.saiga.specs.Rows.{times, unit-literal, whole, minus-one, null
 use Rattle.saiga.specs.Misreadings.{sheetP, next}
 use Rattle.saiga.specs.TableStops.{front, sheetF}
 
--- A case: a sheet, what is lent, a question with its budget, and the outcome.
+-- A case: a sheet, what is lent, a question with its budget, and what it brings: its answer and the bytes of the store.
 pub record Case : Type 0 where
   pub sheet : List ℕ
   pub lent : Lent
   pub asked : Call
-  pub outcome : Outcome
+  pub brings : Answer × List ℕ
 
 abbrev pub case : List ℕ → List ℕ → ℕ → Call → Answer → List ℕ → Case
 case sheet store kept asked answer left =
-    record { sheet = sheet; lent = lent store kept; asked = asked; outcome = record { answer = answer; store = left } }
+    record { sheet = sheet; lent = lent store kept; asked = asked; brings = (answer, left) }
 
 -- An entry: node (2), attribute (1), the type code of its value (1), parameter (4), value (4), each number below 256.
 abbrev pub entry : ℕ → ℕ → ℕ → ℕ → ℕ → List ℕ
@@ -159,13 +159,16 @@ lent-stores =
     (entry 0 0 2 3 4 ++ entry 0 0 2 4 4 ++ entry 1 2 4 1 2) ∷
     []
 
-unfoldable pub outcomes : List Case → List Outcome
-outcomes [] = []
-outcomes (c ∷ l) = ask (c .sheet) (c .lent) (c .asked) ∷ outcomes l
+abbrev pub answer-and-store : Outcome → Answer × List ℕ
+answer-and-store o = (o .answer, o .store)
 
-abbrev pub expected : List Case → List Outcome
+unfoldable pub outcomes : List Case → List (Answer × List ℕ)
+outcomes [] = []
+outcomes (c ∷ l) = answer-and-store (ask (c .sheet) (c .lent) (c .asked)) ∷ outcomes l
+
+abbrev pub expected : List Case → List (Answer × List ℕ)
 expected [] = []
-expected (c ∷ l) = c .outcome ∷ expected l
+expected (c ∷ l) = c .brings ∷ expected l
 
 -- The tables, as one statement.
 unfoldable pub TableStores : Type 0

@@ -22,3 +22,10 @@ pub const STORE_LIMIT: usize = 12288;
 pub const BUDGET_LIMIT: usize = 1000000;
 
 pub const DEPTH_LIMIT: usize = 64;
+
+// The tally: its rows, one for each attribute number first; then that of the applications, and that of the conditions.
+pub const TALLY_ROWS: usize = 34;
+
+pub const APPLICATIONS_ROW: usize = 32;
+
+pub const CONDITIONS_ROW: usize = 33;

@@ -3,6 +3,7 @@ use calls::Answer;
 use calls::checks::Verdict;
 use engine::RUN_SIZE;
 use saiga::limits::SHEET_LIMIT;
+use saiga::limits::TALLY_ROWS;
 use sheets::SheetCheck;
 use sheets::lookup::INDEX_SIZE;
 use stores::LINKS_SIZE;
@@ -99,7 +100,7 @@ fn lay(a: Answer, out: &mut [i64; 6])
     }
 }
 
-// A question call in lent scratch: nothing is asked of what the scratch holds.
+// A question call in lent scratch: nothing is asked of what the scratch holds. Answer and tally are filled whole, under a refusal too.
 #[no_mangle]
 pub extern "C" fn sofretu_ask_in<'a>(
     sheet: &'a [u8],
@@ -112,8 +113,10 @@ pub extern "C" fn sofretu_ask_in<'a>(
     links: &mut [u16; LINKS_SIZE],
     memory: &mut [u64; RUN_SIZE],
     answer: &mut [i64; 6],
+    tally: &mut [u64; TALLY_ROWS],
 )
     ensures { λ _. ⌜ now (answer .exit) ≡ six (ask (now (sheet .entry)) (lent (now (store .entry)) kept) (asking (now (question .entry)) budget) .answer) ⌝ }
+    ensures { λ _. ⌜ now (tally .exit) ≡ ask (now (sheet .entry)) (lent (now (store .entry)) kept) (asking (now (question .entry)) budget) .tally ⌝ }
     ensures { λ _. ⌜ now (store .exit) ≡ ask (now (sheet .entry)) (lent (now (store .entry)) kept) (asking (now (question .entry)) budget) .store ⌝ }
     ensures { λ _. ⌜ Indexes (now (sheet .entry)) (now (store .exit))
         (ask (now (sheet .entry)) (lent (now (store .entry)) kept) (asking (now (question .entry)) budget) .answer .kept) (now (index .exit)) (now (notes .exit)) (now (links .exit)) ⌝ }
@@ -130,6 +133,7 @@ pub extern "C" fn sofretu_ask_in<'a>(
         notes,
         links,
         memory,
+        tally,
     );
     lay(a, answer);
 }
@@ -143,8 +147,10 @@ pub extern "C" fn sofretu_ask<'a>(
     kept: u64,
     budget: u64,
     answer: &mut [i64; 6],
+    tally: &mut [u64; TALLY_ROWS],
 )
     ensures { λ _. ⌜ now (answer .exit) ≡ six (ask (now (sheet .entry)) (lent (now (store .entry)) kept) (asking (now (question .entry)) budget) .answer) ⌝ }
+    ensures { λ _. ⌜ now (tally .exit) ≡ ask (now (sheet .entry)) (lent (now (store .entry)) kept) (asking (now (question .entry)) budget) .tally ⌝ }
     ensures { λ _. ⌜ now (store .exit) ≡ ask (now (sheet .entry)) (lent (now (store .entry)) kept) (asking (now (question .entry)) budget) .store ⌝ }
 {
     let mut index = [0u16; INDEX_SIZE];
@@ -162,6 +168,7 @@ pub extern "C" fn sofretu_ask<'a>(
         &mut links,
         &mut memory,
         answer,
+        tally,
     );
 }
 
@@ -243,10 +250,12 @@ pub extern "C" fn sofretu_ask_checked<'a>(
     links: &mut [u16; LINKS_SIZE],
     memory: &mut [u64; RUN_SIZE],
     answer: &mut [i64; 6],
+    tally: &mut [u64; TALLY_ROWS],
 )
     requires { ⌜ PreparedSheet (now sheet) (now index) × NotedSheet (now sheet) (now index) (now notes) ⌝ }
     requires { ⌜ PreparedStore (now sheet) (now store) kept (now links) ⌝ }
     ensures { λ _. ⌜ now (answer .exit) ≡ six (ask (now (sheet .entry)) (lent (now (store .entry)) kept) (asking (now (question .entry)) budget) .answer) ⌝ }
+    ensures { λ _. ⌜ now (tally .exit) ≡ ask (now (sheet .entry)) (lent (now (store .entry)) kept) (asking (now (question .entry)) budget) .tally ⌝ }
     ensures { λ _. ⌜ now (store .exit) ≡ ask (now (sheet .entry)) (lent (now (store .entry)) kept) (asking (now (question .entry)) budget) .store ⌝ }
     ensures { λ _. ⌜ PreparedStore (now (sheet .entry)) (now (store .exit))
         (ask (now (sheet .entry)) (lent (now (store .entry)) kept) (asking (now (question .entry)) budget) .answer .kept) (now (links .exit)) ⌝ }
@@ -263,6 +272,7 @@ pub extern "C" fn sofretu_ask_checked<'a>(
         budget as usize,
         links,
         memory,
+        tally,
     );
     lay(a, answer);
 }

@@ -1,8 +1,8 @@
-//! The library's calls in lent scratch, with document 01's six fields as they come, so that nothing but the call is measured: the
-//! crate `sofretu` makes memory for its sheets and sessions, and an enum of the fields.
+//! The library's calls in lent scratch, with document 01's six fields and the tally as they come, so that nothing but the call is measured:
+//! the crate `sofretu` makes memory for its sheets and sessions, and an enum of the fields and the tally.
 
 use calls::Call;
-use sofretu_sys::{CheckedSheet, CheckedStore, Fields, Found, Run};
+use sofretu_sys::{CheckedSheet, CheckedStore, Fields, Found, Rows, Run};
 
 /// The scratch that is lent to the library.
 #[derive(Default)]
@@ -27,8 +27,9 @@ pub struct Store<'s, 'a> {
 
 impl Scratch {
     /// A question put in this scratch.
-    pub fn ask(&mut self, call: Call) -> Fields {
-        sofretu_sys::ask_in(call, &mut self.sheet, &mut self.store, &mut self.run)
+    pub fn ask(&mut self, call: Call, tally: &mut Rows) -> Fields {
+        let Scratch { sheet, store, run } = self;
+        sofretu_sys::ask_in(call, sheet, store, run, tally)
     }
 
     /// The check of a sheet.
@@ -68,7 +69,7 @@ impl<'a> Sheet<'a> {
 
 impl Store<'_, '_> {
     /// A question put to the checked sheet and this store.
-    pub fn ask(&mut self, question: &[u8], budget: u64) -> Fields {
+    pub fn ask(&mut self, question: &[u8], budget: u64, tally: &mut Rows) -> Fields {
         let Scratch { sheet, store, run } = &mut *self.sheet.scratch;
         let call = Call {
             sheet: self.sheet.bytes,
@@ -79,7 +80,7 @@ impl Store<'_, '_> {
         };
         // SAFETY: `Scratch::check` filled the checked sheet for these bytes, `Sheet::lend` or the last call here the checked store; what
         // they speak of has been borrowed since.
-        let answer = unsafe { sofretu_sys::ask_checked(call, sheet, store, run) };
+        let answer = unsafe { sofretu_sys::ask_checked(call, sheet, store, run, tally) };
         self.kept = answer[5] as u64;
         answer
     }

@@ -100,7 +100,7 @@ fn left(input: &Input) -> Input {
     let (_, outcome) = Oracle.run(Work::Question, input, 1);
     Input {
         store: outcome.store,
-        kept: outcome.fields[5] as u64,
+        kept: outcome.brought.fields[5] as u64,
         ..input.clone()
     }
 }

@@ -82,7 +82,7 @@ impl<'r, const N: usize> Plan<'r, N> {
         let runs = self.runs[which];
         let (time, outcome) = program.run(self.row.work, &self.row.input, runs);
         // The last of several runs finds what the ones before it left past the kept entries.
-        if outcome.fields != self.expected.fields {
+        if outcome.brought != self.expected.brought {
             return Err(difference(self.row, &self.expected, &outcome));
         }
         let units = self.row.units(&self.expected);
@@ -97,6 +97,6 @@ fn difference(row: &Row, expected: &Outcome, other: &Outcome) -> String {
     };
     format!(
         "{}: {:?} and {:?}, stores {stores}",
-        row.name, expected.fields, other.fields
+        row.name, expected.brought, other.brought
     )
 }

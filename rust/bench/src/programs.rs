@@ -3,7 +3,7 @@
 use std::hint::black_box;
 use std::time::{Duration, Instant};
 
-use calls::Call;
+use calls::{Call, Rows, TALLY_ROWS};
 use sofretu_sys::{Fields, Found};
 
 use crate::library;
@@ -52,10 +52,17 @@ pub enum Work {
     CheckStore,
 }
 
-/// What the last run of some brought: the answer's six fields, or a check's number, place and counts; and the store.
+/// What a run brings: the answer's six fields and its tally, or a check's number, place and counts, and no steps.
+#[derive(Clone, Copy, Debug, PartialEq, Eq)]
+pub struct Brought {
+    pub fields: Fields,
+    pub tally: Rows,
+}
+
+/// What the last run of some brought, and the store.
 #[derive(Clone, Debug, PartialEq, Eq)]
 pub struct Outcome {
-    pub fields: Fields,
+    pub brought: Brought,
     pub store: Vec<u8>,
 }
 
@@ -64,14 +71,15 @@ pub trait Program {
     fn run(&mut self, work: Work, input: &Input, runs: u32) -> (Duration, Outcome);
 }
 
-/// The time of a number of runs, and what the last of them brought.
-fn timed(runs: u32, mut run: impl FnMut() -> Fields) -> (Duration, Fields) {
+/// The time of a number of runs, each lent one and the same tally, and what the last of them brought.
+fn timed(runs: u32, mut run: impl FnMut(&mut Rows) -> Fields) -> (Duration, Brought) {
+    let mut tally = [0; TALLY_ROWS];
     let start = Instant::now();
     for _ in 1..runs {
-        black_box(run());
+        black_box(run(black_box(&mut tally)));
     }
-    let fields = black_box(run());
-    (start.elapsed(), fields)
+    let fields = black_box(run(black_box(&mut tally)));
+    (start.elapsed(), Brought { fields, tally })
 }
 
 fn stopped(number: i64, place: i64) -> Fields {
@@ -97,30 +105,32 @@ impl Program for Engine {
         let mut store = input.store.clone();
         let lent = &mut store[..];
         let refused = |(number, place): Found| stopped(number.into(), place as i64);
-        let (time, fields) = match work {
+        let (time, brought) = match work {
             Work::Question => {
                 let mut sheet = scratch.check(sheet).expect(CHECKED);
-                timed(runs, || {
+                timed(runs, |tally| {
                     let mut store = sheet.lend(lent, input.kept).expect(CHECKED);
-                    store.ask(question, BUDGET)
+                    store.ask(question, BUDGET, tally)
                 })
             }
             Work::Kept => {
                 let mut sheet = scratch.check(sheet).expect(CHECKED);
                 let mut store = sheet.lend(lent, input.kept).expect(CHECKED);
                 for question in &input.before {
-                    store.ask(question, BUDGET);
+                    store.ask(question, BUDGET, &mut [0; TALLY_ROWS]);
                 }
-                timed(runs, || store.ask(question, BUDGET))
+                timed(runs, |tally| store.ask(question, BUDGET, tally))
             }
             // SAFETY: the programs run on the main thread, whose stack has more than the call needs.
-            Work::Ask => timed(runs, || unsafe { sofretu_sys::ask(input.call(lent)) }),
-            // SAFETY: as above.
-            Work::AskCleared => timed(runs, || unsafe {
-                sofretu_sys::ask_cleared(input.call(lent))
+            Work::Ask => timed(runs, |tally| unsafe {
+                sofretu_sys::ask(input.call(lent), tally)
             }),
-            Work::AskIn => timed(runs, || scratch.ask(input.call(lent))),
-            Work::CheckSheet => timed(runs, || match scratch.check(sheet) {
+            // SAFETY: as above.
+            Work::AskCleared => timed(runs, |tally| unsafe {
+                sofretu_sys::ask_cleared(input.call(lent), tally)
+            }),
+            Work::AskIn => timed(runs, |tally| scratch.ask(input.call(lent), tally)),
+            Work::CheckSheet => timed(runs, |_| match scratch.check(sheet) {
                 Ok(sheet) => {
                     let (attributes, nodes) = sheet.declared();
                     accepted(attributes as i64, nodes as i64)
@@ -129,13 +139,13 @@ impl Program for Engine {
             }),
             Work::CheckStore => {
                 let mut sheet = scratch.check(sheet).expect(CHECKED);
-                timed(runs, || match sheet.lend(lent, input.kept) {
+                timed(runs, |_| match sheet.lend(lent, input.kept) {
                     Ok(_) => stopped(0, 0),
                     Err(stop) => refused(stop),
                 })
             }
         };
-        (time, Outcome { fields, store })
+        (time, Outcome { brought, store })
     }
 }
 
@@ -154,16 +164,16 @@ impl Program for Twin {
         let lent = &mut store[..];
         let refused = |refusal: twin::Refusal| stopped(refusal.stop as i64, refusal.place as i64);
         let stack = &mut scratch.stack;
-        let mut put = |sheet: &Sheet, store: &mut Store, question: &[u8]| {
-            twin::ask_checked(sheet, store, black_box(question), BUDGET, stack).fields()
+        let mut put = |sheet: &Sheet, store: &mut Store, question: &[u8], tally: &mut Rows| {
+            twin::ask_checked(sheet, store, black_box(question), BUDGET, stack, tally).fields()
         };
-        let (time, fields) = match work {
+        let (time, brought) = match work {
             Work::Question => {
                 let sheet = Sheet::check(sheet, &mut scratch.index).expect(CHECKED);
-                timed(runs, || {
+                timed(runs, |tally| {
                     let store =
                         Store::check(&sheet, black_box(lent), input.kept, &mut scratch.links);
-                    put(&sheet, &mut store.expect(CHECKED), question)
+                    put(&sheet, &mut store.expect(CHECKED), question, tally)
                 })
             }
             Work::Kept => {
@@ -171,17 +181,17 @@ impl Program for Twin {
                 let store = Store::check(&sheet, lent, input.kept, &mut scratch.links);
                 let mut store = store.expect(CHECKED);
                 for question in &input.before {
-                    put(&sheet, &mut store, question);
+                    put(&sheet, &mut store, question, &mut [0; TALLY_ROWS]);
                 }
-                timed(runs, || put(&sheet, &mut store, question))
+                timed(runs, |tally| put(&sheet, &mut store, question, tally))
             }
-            Work::Ask | Work::AskCleared => {
-                timed(runs, || twin::ask(black_box(input.call(lent))).fields())
-            }
-            Work::AskIn => timed(runs, || {
-                twin::ask_in(black_box(input.call(lent)), scratch).fields()
+            Work::Ask | Work::AskCleared => timed(runs, |tally| {
+                twin::ask(black_box(input.call(lent)), tally).fields()
             }),
-            Work::CheckSheet => timed(runs, || {
+            Work::AskIn => timed(runs, |tally| {
+                twin::ask_in(black_box(input.call(lent)), scratch, tally).fields()
+            }),
+            Work::CheckSheet => timed(runs, |_| {
                 match Sheet::check(black_box(sheet), &mut scratch.index) {
                     Ok(sheet) => accepted(sheet.attributes as i64, sheet.nodes as i64),
                     Err(stop) => refused(stop),
@@ -189,7 +199,7 @@ impl Program for Twin {
             }),
             Work::CheckStore => {
                 let sheet = Sheet::check(sheet, &mut scratch.index).expect(CHECKED);
-                timed(runs, || {
+                timed(runs, |_| {
                     match Store::check(&sheet, black_box(lent), input.kept, &mut scratch.links) {
                         Ok(_) => stopped(0, 0),
                         Err(stop) => refused(stop),
@@ -197,7 +207,7 @@ impl Program for Twin {
                 })
             }
         };
-        (time, Outcome { fields, store })
+        (time, Outcome { brought, store })
     }
 }
 
@@ -214,36 +224,40 @@ impl Program for Oracle {
         let mut store = input.store.clone();
         let lent = &mut store[..];
         let refused = |stop: Stop| stopped(stop.reason as i64, stop.place as i64);
-        let put = |sheet: &Sheet, store: &mut Store, question: &[u8]| {
+        let put = |sheet: &Sheet, store: &mut Store, question: &[u8], tally: &mut Rows| {
             let question = read_question(black_box(question), sheet).expect(CHECKED);
-            ask_admitted(sheet, store, &question, BUDGET).fields()
+            let answer = ask_admitted(sheet, store, &question, BUDGET);
+            *tally = answer.tally;
+            answer.fields()
         };
-        let (time, fields) = match work {
+        let (time, brought) = match work {
             Work::Question => {
                 let sheet = Sheet::read(sheet).expect(CHECKED);
-                timed(runs, || {
+                timed(runs, |tally| {
                     let mut store = Store::open(lent, input.kept, &sheet).expect(CHECKED);
-                    put(&sheet, &mut store, question)
+                    put(&sheet, &mut store, question, tally)
                 })
             }
             Work::Kept => {
                 let sheet = Sheet::read(sheet).expect(CHECKED);
                 let mut store = Store::open(lent, input.kept, &sheet).expect(CHECKED);
                 for question in &input.before {
-                    put(&sheet, &mut store, question);
+                    put(&sheet, &mut store, question, &mut [0; TALLY_ROWS]);
                 }
-                timed(runs, || put(&sheet, &mut store, question))
+                timed(runs, |tally| put(&sheet, &mut store, question, tally))
             }
-            Work::Ask | Work::AskCleared | Work::AskIn => timed(runs, || {
-                ask(black_box(sheet), lent, input.kept, question, BUDGET).fields()
+            Work::Ask | Work::AskCleared | Work::AskIn => timed(runs, |tally| {
+                let answer = ask(black_box(sheet), lent, input.kept, question, BUDGET);
+                *tally = answer.tally;
+                answer.fields()
             }),
-            Work::CheckSheet => timed(runs, || match Sheet::read(black_box(sheet)) {
+            Work::CheckSheet => timed(runs, |_| match Sheet::read(black_box(sheet)) {
                 Ok(sheet) => accepted(sheet.attributes().len() as i64, sheet.node_count() as i64),
                 Err(stop) => refused(stop),
             }),
             Work::CheckStore => {
                 let sheet = Sheet::read(sheet).expect(CHECKED);
-                timed(runs, || {
+                timed(runs, |_| {
                     match Store::open(black_box(lent), input.kept, &sheet) {
                         Ok(_) => stopped(0, 0),
                         Err(stop) => refused(stop),
@@ -251,7 +265,7 @@ impl Program for Oracle {
                 })
             }
         };
-        (time, Outcome { fields, store })
+        (time, Outcome { brought, store })
     }
 }
 
@@ -263,7 +277,7 @@ pub fn places(input: &Input) -> Vec<sofretu_sys::Place> {
     let mut bytes = input.store.clone();
     let mut store = sheet.lend(&mut bytes, input.kept).expect(CHECKED);
     for question in &input.before {
-        store.ask(question, BUDGET);
+        store.ask(question, BUDGET, &mut [0; TALLY_ROWS]);
     }
     store.places()
 }
@@ -272,7 +286,7 @@ pub fn places(input: &Input) -> Vec<sofretu_sys::Place> {
 #[cfg(test)]
 pub fn counts(input: &Input) -> (i64, i64) {
     let (_, outcome) = Oracle.run(Work::Kept, input, 1);
-    let [number, _, _, _, steps, kept] = outcome.fields;
+    let [number, _, _, _, steps, kept] = outcome.brought.fields;
     assert_eq!(number, 0);
     (steps, kept)
 }

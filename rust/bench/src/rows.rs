@@ -31,7 +31,7 @@ impl Row {
     /// How many units a run with this outcome has.
     pub fn units(&self, outcome: &Outcome) -> f64 {
         match self.per {
-            Per::Step => outcome.fields[4] as f64,
+            Per::Step => outcome.brought.fields[4] as f64,
             Per::Byte => self.input.sheet.len() as f64,
             Per::Run => 1.0,
         }

@@ -1,5 +1,5 @@
-//! What a call takes, the stops of its answer, and where the store's index has a key: shared by all Rust crates but the second evaluator,
-//! which rests on nothing.
+//! What a call takes, the stops and the tally of its answer, and where the store's index has a key: shared by all Rust crates but the second
+//! evaluator, which rests on nothing.
 //!
 //! It is a crate because the twin, which does not link the library, shares it with the crates that do.
 //!
@@ -10,8 +10,10 @@
 
 pub mod index;
 mod stops;
+pub mod tally;
 
 pub use stops::{Origin, Refusal, Stop};
+pub use tally::{Rows, Tally, TALLY_ROWS};
 
 /// One question call, of any bytes and numbers.
 #[derive(Debug)]

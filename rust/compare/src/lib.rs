@@ -1,5 +1,5 @@
-//! The proved engine compared with the second evaluator: every field of every answer, every byte of the store, and demand 3 on
-//! the engine's own answers against plain Saiga.
+//! The proved engine compared with the second evaluator: every field and every row of every answer, every byte of the store, and demand 3
+//! on the engine's own answers against plain Saiga.
 #![forbid(unsafe_code)]
 
 use sofretu::{Refusal, Scratch, Session, Sheet, Store, MOST_STEPS};
@@ -57,13 +57,18 @@ fn check(call: Call) -> Result<(), (i64, i64)> {
     sofretu::check(&call).map_err(|refusal| (refusal.stop.number().into(), refusal.place as i64))
 }
 
+/// The library's answer as the second evaluator has answers.
+pub fn brought(answer: sofretu::Answer) -> Answer {
+    Answer::new(answer.fields(), *answer.tally().rows())
+}
+
 /// Every question with all its checks and its scratch on the stack.
 #[derive(Default)]
 struct Whole;
 
 impl Engine for Whole {
     fn ask(&mut self, call: Call) -> Answer {
-        sofretu::ask(call).fields().into()
+        brought(sofretu::ask(call))
     }
 }
 
@@ -73,7 +78,7 @@ struct Cleared;
 
 impl Engine for Cleared {
     fn ask(&mut self, call: Call) -> Answer {
-        sofretu::ask_cleared(call).fields().into()
+        brought(sofretu::ask_cleared(call))
     }
 }
 
@@ -94,7 +99,7 @@ impl Default for Lent {
 
 impl Engine for Lent {
     fn ask(&mut self, call: Call) -> Answer {
-        self.scratch.ask(call).fields().into()
+        brought(self.scratch.ask(call))
     }
 
     fn list(&mut self, case: &Case, each: &mut dyn FnMut(Answer, &[u8])) {
@@ -152,7 +157,7 @@ impl Engine for Sessions {
         let mut lent = Store::from_parts(call.store.to_vec(), call.kept);
         let answer = Sheet::check(call.sheet).and_then(|sheet| {
             let mut session = Session::open(&sheet, &mut lent)?;
-            Ok(session.ask(call.question, call.budget).fields().into())
+            Ok(brought(session.ask(call.question, call.budget)))
         });
         call.store.copy_from_slice(lent.bytes());
         answer.unwrap_or_else(|refusal| refused(refusal, call.kept))
@@ -165,7 +170,7 @@ impl Engine for Sessions {
             for ask in &case.asks {
                 let answer = session.ask(&ask.question, ask.budget);
                 assert_eq!(answer.kept(), session.store().kept());
-                each(answer.fields().into(), session.store().bytes());
+                each(brought(answer), session.store().bytes());
             }
             Ok(())
         });
@@ -180,7 +185,8 @@ impl Engine for Sessions {
 /// The answer to a question whose sheet or store is refused.
 fn refused(refusal: Refusal, kept: u64) -> Answer {
     let number = refusal.stop.number().into();
-    [number, refusal.place as i64, 0, 0, 0, kept as i64].into()
+    let fields = [number, refusal.place as i64, 0, 0, 0, kept as i64];
+    Answer::new(fields, [0; 34])
 }
 
 #[cfg(test)]

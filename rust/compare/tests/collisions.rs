@@ -76,7 +76,7 @@ fn keys_collide_by_questions_and_in_lent_stores() {
 #[test]
 fn every_key_lies_where_the_rust_crates_have_it() {
     let mut seen = 0;
-    for case in (0..1_500).map(|number| generate::case(6, number)) {
+    for case in (0..2_000).map(|number| generate::case(6, number)) {
         if let Some(places) = places(&case.sheet, &case.store, case.kept) {
             seen += places.len();
             assert_eq!(places, expected(&case.store, places.len()));

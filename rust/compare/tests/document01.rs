@@ -10,6 +10,8 @@ mod ints;
 mod sheet_l;
 #[path = "../../trials/tests/document01/stops.rs"]
 mod stops;
+#[path = "../../trials/tests/document01/tally.rs"]
+mod tally;
 #[path = "../../trials/tests/document01/types.rs"]
 mod types;
 
@@ -23,5 +25,5 @@ fn ask(sheet: &[u8], store: &mut [u8], kept: u64, question: &[u8], budget: u64) 
         kept,
         budget,
     };
-    sofretu::ask(call).fields().into()
+    compare::brought(sofretu::ask(call))
 }

@@ -1,18 +1,19 @@
-//! Document 01, "Stops by origin": a question put to a sheet and a lent store, with all its answer.
+//! Document 01, "Stops by origin": a question put to a sheet and a lent store, with all its answer; document 02, F-2.
 
 use std::fmt;
 
-use crate::caching;
+use crate::caching::{self, Outcome};
 use crate::expr::{Expr, LONGEST};
 use crate::sheet::Sheet;
 use crate::stop::{Reason, Stop};
 use crate::store::Store;
+use crate::tally::{Tally, ZEROS};
 use crate::values::Type;
 
 /// "The budget is 0 to 1,000,000 counted steps" ("The steps").
 pub const MOST_STEPS: u64 = 1_000_000;
 
-/// "An answer has number (0 for a value), place, type, value, steps, kept."
+/// "An answer has number (0 for a value), place, type, value, steps, kept", and "a tally with each answer" (document 02, F-2).
 #[derive(Clone, Copy, Debug, PartialEq, Eq)]
 pub struct Answer {
     pub number: i64,
@@ -21,10 +22,24 @@ pub struct Answer {
     pub value: i64,
     pub steps: i64,
     pub kept: i64,
+    pub tally: Tally,
 }
 
 impl Answer {
-    /// The fields in their order.
+    /// The answer with six fields, in their order, and a tally.
+    pub fn new([number, place, typ, value, steps, kept]: [i64; 6], tally: Tally) -> Answer {
+        Answer {
+            number,
+            place,
+            typ,
+            value,
+            steps,
+            kept,
+            tally,
+        }
+    }
+
+    /// The six fields in their order.
     pub fn fields(&self) -> [i64; 6] {
         [
             self.number,
@@ -37,19 +52,7 @@ impl Answer {
     }
 }
 
-impl From<[i64; 6]> for Answer {
-    fn from([number, place, typ, value, steps, kept]: [i64; 6]) -> Answer {
-        Answer {
-            number,
-            place,
-            typ,
-            value,
-            steps,
-            kept,
-        }
-    }
-}
-
+/// The six fields, as the report program prints them.
 impl fmt::Display for Answer {
     fn fmt(&self, f: &mut fmt::Formatter) -> fmt::Result {
         let [number, place, typ, value, steps, kept] = self.fields();
@@ -83,7 +86,11 @@ pub fn ask_accepted(
 
 /// As `ask`, for a sheet, a store, a question and a budget that none of stops 1 to 13 holds of.
 pub fn ask_admitted(sheet: &Sheet, store: &mut Store, question: &Expr, budget: u64) -> Answer {
-    let (ending, steps) = caching::evaluate(sheet, store, question, budget);
+    let Outcome {
+        ending,
+        steps,
+        tally,
+    } = caching::evaluate(sheet, store, question, budget);
     let (number, typ, value) = match ending {
         Ok(value) => {
             let base = value.base().expect("a question is of base type");
@@ -98,6 +105,7 @@ pub fn ask_admitted(sheet: &Sheet, store: &mut Store, question: &Expr, budget: u
         value,
         steps: steps as i64,
         kept: store.kept() as i64,
+        tally,
     }
 }
 
@@ -128,7 +136,7 @@ pub fn read_question(bytes: &[u8], sheet: &Sheet) -> Result<Expr, Stop> {
     }
 }
 
-/// "Under 1 to 13 steps are 0 and kept and store are as lent", and "under any stop type and value are 0".
+/// "Under 1 to 13 steps are 0 and kept and store are as lent", "under any stop type and value are 0", and "1 to 13 bring zeros" for a tally.
 pub fn refusal(stop: Stop, kept: u64) -> Answer {
     Answer {
         number: stop.reason as i64,
@@ -137,5 +145,6 @@ pub fn refusal(stop: Stop, kept: u64) -> Answer {
         value: 0,
         steps: 0,
         kept: kept as i64,
+        tally: ZEROS,
     }
 }

@@ -1,4 +1,4 @@
-//! Document 01, "The steps", and stops 14 to 16 of "Stops by origin".
+//! Document 01, "The steps", and stops 14 to 16 of "Stops by origin"; document 02, F-2 and F-8.
 //!
 //! A recursive evaluator over the expression tree: "left part before right part, IF by condition only". A call of `evaluate` inside that of
 //! a definition is what lies inside the form n.a(v) := e.
@@ -9,6 +9,7 @@ use crate::expr::Expr;
 use crate::sheet::{Definition, Sheet};
 use crate::stop::Reason;
 use crate::store::{Occurrence, Store};
+use crate::tally::{Rule, Tally, ZEROS};
 use crate::values::Value;
 
 /// Stop 16: "AttrApp due inside 64 open forms"; by F-8 of document 02 "only when the occurrence due is not kept".
@@ -27,22 +28,26 @@ struct Run<'a, 's> {
     store: &'a mut Store<'s>,
     budget: u64,
     steps: u64,
+    tally: Tally,
     open: usize,
 }
 
-/// Evaluates an accepted question: the value or the stop, and the steps counted.
-pub fn evaluate(
-    sheet: &Sheet,
-    store: &mut Store,
-    question: &Expr,
-    budget: u64,
-) -> (Result<Value, Reason>, u64) {
+/// What a run brings: the value or the stop, the steps counted, and their tally.
+pub struct Outcome {
+    pub ending: Result<Value, Reason>,
+    pub steps: u64,
+    pub tally: Tally,
+}
+
+/// Evaluates an accepted question. "Stops 14 to 16 bring the tally so far."
+pub fn evaluate(sheet: &Sheet, store: &mut Store, question: &Expr, budget: u64) -> Outcome {
     let levels = question.depth() + MOST_OPEN * (1 + sheet.deepest_rule());
     let mut run = Run {
         sheet,
         store,
         budget,
         steps: 0,
+        tally: ZEROS,
         open: 0,
     };
     let ending = if levels <= SHALLOW {
@@ -57,7 +62,11 @@ pub fn evaluate(
                 .expect("the evaluator does not panic")
         })
     };
-    (ending, run.steps)
+    Outcome {
+        ending,
+        steps: run.steps,
+        tally: run.tally,
+    }
 }
 
 impl<'a> Run<'a, '_> {
@@ -75,19 +84,21 @@ impl<'a> Run<'a, '_> {
                 }
                 Expr::If(parts) => {
                     let [condition, yes, no] = &**parts;
-                    let condition = self.evaluate(condition, here)?;
-                    self.count()?;
-                    expr = match condition {
-                        Value::Bool(true) => yes,
-                        Value::Bool(false) => no,
+                    let (rule, branch) = match self.evaluate(condition, here)? {
+                        Value::Bool(true) => (Rule::CondTrue, yes),
+                        Value::Bool(false) => (Rule::CondFalse, no),
                         other => unreachable!("ill typed: IF {other:?}"),
                     };
+                    self.not_spent()?;
+                    self.count(rule);
+                    expr = branch;
                 }
                 Expr::Apply(parts) => {
                     let [function, argument] = &**parts;
                     let function = self.evaluate(function, here)?;
                     let argument = self.evaluate(argument, here)?;
-                    self.count()?;
+                    self.not_spent()?;
+                    self.count(Rule::AppApp);
                     return Ok(function.apply(argument));
                 }
                 Expr::Attribute(attribute, parts) => {
@@ -108,22 +119,21 @@ impl<'a> Run<'a, '_> {
             Value::Node(None) => return Err(Reason::Null),
             other => unreachable!("ill typed: attribute of {other:?}"),
         };
-        if self.spent() {
-            return Err(Reason::Spent);
-        }
+        self.not_spent()?;
         let occurrence = Occurrence {
             node,
             attribute,
             parameter,
         };
+        let rule = Rule::AttrApp(attribute);
         if let Some(value) = self.store.value(&occurrence) {
-            self.steps += 1;
+            self.count(rule);
             return Ok(value);
         }
         if self.open == MOST_OPEN {
             return Err(Reason::Depth);
         }
-        self.steps += 1;
+        self.count(rule);
         let value = match self.sheet.definition(node, attribute) {
             Definition::Figure(figure) => figure,
             Definition::Rule(expr) => {
@@ -138,16 +148,16 @@ impl<'a> Run<'a, '_> {
     }
 
     /// Stop 15: "a counted step due with the whole budget used".
-    fn spent(&self) -> bool {
-        self.steps == self.budget
-    }
-
-    /// "Each of CondTrue, CondFalse, AppApp and AttrApp counts one": the first three.
-    fn count(&mut self) -> Result<(), Reason> {
-        if self.spent() {
+    fn not_spent(&self) -> Result<(), Reason> {
+        if self.steps == self.budget {
             return Err(Reason::Spent);
         }
-        self.steps += 1;
         Ok(())
+    }
+
+    /// "Each of CondTrue, CondFalse, AppApp and AttrApp counts one", and "each row equals that count".
+    fn count(&mut self, rule: Rule) {
+        self.steps += 1;
+        self.tally[rule.row()] += 1;
     }
 }

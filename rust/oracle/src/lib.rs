@@ -13,6 +13,7 @@ pub mod plain;
 pub mod sheet;
 pub mod stop;
 pub mod store;
+pub mod tally;
 pub mod values;
 
 pub use ask::{ask, Answer};

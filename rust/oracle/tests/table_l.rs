@@ -1,4 +1,5 @@
-//! Document 01, "Sheet L and its questions": L1 to L13, from bytes written out by hand. `rust/trials` puts many more cases to the evaluator.
+//! Document 01, "Sheet L and its questions": L1 to L13 with their tallies (document 02, F-2), from bytes written out by hand. `rust/trials` puts
+//! many more cases to the evaluator.
 
 use oracle::ask::{ask, read_question};
 use oracle::plain::{self, Ending};
@@ -85,6 +86,46 @@ fn l2_l3_and_l5_to_l13() {
     assert_eq!(asked(&SHEET_L12, 1_024, &L12, 64), [15, 0, 0, 0, 64, 0]);
     let most = i64::from(i32::MAX);
     assert_eq!(asked(&SHEET_L, 1_024, &L13, MOST), [0, 0, 2, most, 2, 0]);
+}
+
+#[test]
+fn the_tallies_of_l1_to_l13() {
+    // The steps of up, own and dial, AppApp, and CondTrue with CondFalse. No other row has any.
+    let tally = |[up, own, dial, applications, conditions]: [u64; 5]| {
+        let mut rows = [0; 34];
+        rows[..3].copy_from_slice(&[up, own, dial]);
+        rows[32..].copy_from_slice(&[applications, conditions]);
+        rows
+    };
+    // L1, and L4 in the store that it left.
+    let mut store = [0; 12 * 1_024];
+    let l1 = ask(&SHEET_L, &mut store, 0, &D, MOST);
+    assert_eq!(l1.tally, tally([1, 2, 2, 2, 1]));
+    let l4 = ask(&SHEET_L, &mut store, l1.kept as u64, &D, MOST);
+    assert_eq!(l4.tally, tally([0, 0, 1, 0, 0]));
+    let tallies = |sheet: &[u8], capacity: usize, question: &[u8], budget, rows| {
+        let given = ask(sheet, &mut vec![0; 12 * capacity], 0, question, budget);
+        assert_eq!(given.tally, tally(rows), "{question:?}, {capacity}");
+        assert_eq!(given.tally.iter().sum::<u64>(), given.steps as u64);
+    };
+    // L2, L3
+    tallies(&SHEET_L, 1_024, &D, 7, [1, 1, 2, 2, 1]);
+    tallies(&SHEET_L, 1_024, &D, 8, [1, 2, 2, 2, 1]);
+    // L5
+    tallies(&SHEET_L, 1_024, &DIAL_2, MOST, [0, 2, 1, 2, 1]);
+    // L6 to L9
+    tallies(&SHEET_L, 1_024, &L6, MOST, [1, 2, 3, 4, 1]);
+    tallies(&SHEET_L, 0, &L6, MOST, [2, 4, 4, 6, 2]);
+    tallies(&SHEET_L, 4, &L6, MOST, [2, 3, 4, 6, 2]);
+    tallies(&SHEET_L, 5, &L6, MOST, [1, 2, 3, 4, 1]);
+    // L10, L11
+    tallies(&SHEET_L, 1_024, &L10, MOST, [1, 0, 0, 0, 0]);
+    tallies(&SHEET_L, 1_024, &[0x12, 5, 0, 0, 0], 0, [0; 5]);
+    // L12, whose sheet has one attribute
+    tallies(&SHEET_L12, 1_024, &L12, 65, [64, 0, 0, 0, 0]);
+    tallies(&SHEET_L12, 1_024, &L12, 64, [64, 0, 0, 0, 0]);
+    // L13
+    tallies(&SHEET_L, 1_024, &L13, MOST, [0, 0, 0, 2, 0]);
 }
 
 #[test]

@@ -9,7 +9,7 @@
 
 use std::mem::MaybeUninit;
 
-pub use calls::Call;
+pub use calls::{Call, Rows};
 #[doc(hidden)]
 pub use places::Place;
 
@@ -96,6 +96,7 @@ extern "C" {
         kept: u64,
         budget: u64,
         answer: *mut [i64; 6],
+        tally: *mut [u64; 34],
     );
 
     fn sofretu_ask_in(
@@ -112,6 +113,7 @@ extern "C" {
         checked_store: *mut [u16; STORE],
         run: *mut [u64; RUN],
         answer: *mut [i64; 6],
+        tally: *mut [u64; 34],
     );
 
     fn sofretu_check_sheet(
@@ -147,6 +149,7 @@ extern "C" {
         checked_store: *mut [u16; STORE],
         run: *mut [u64; RUN],
         answer: *mut [i64; 6],
+        tally: *mut [u64; 34],
     );
 
     fn sofretu_check(
@@ -162,13 +165,14 @@ extern "C" {
     ) -> u32;
 }
 
-/// One question with all its checks. Its scratch is on the stack and is not cleared, since nothing is asked of what it holds.
+/// One question with all its checks. Its scratch is on the stack and is not cleared, since nothing is asked of what it holds. `tally` is filled
+/// whole, whatever it held.
 ///
 /// # Safety
 ///
 /// At least 512 KB of the stack are free.
 #[inline]
-pub unsafe fn ask(call: Call) -> Fields {
+pub unsafe fn ask(call: Call, tally: &mut Rows) -> Fields {
     let mut sheet = MaybeUninit::uninit();
     let mut notes = MaybeUninit::uninit();
     let mut store = MaybeUninit::uninit();
@@ -181,6 +185,7 @@ pub unsafe fn ask(call: Call) -> Fields {
             notes.as_mut_ptr(),
             store.as_mut_ptr(),
             run.as_mut_ptr(),
+            tally,
         )
     }
 }
@@ -191,7 +196,7 @@ pub unsafe fn ask(call: Call) -> Fields {
 ///
 /// As [`ask`].
 #[inline]
-pub unsafe fn ask_cleared(call: Call) -> Fields {
+pub unsafe fn ask_cleared(call: Call, tally: &mut Rows) -> Fields {
     let mut answer = [0; 6];
     // SAFETY: all is borrowed, for reading or writing as the call has it. The stack is the caller's to see to.
     unsafe {
@@ -205,6 +210,7 @@ pub unsafe fn ask_cleared(call: Call) -> Fields {
             call.kept,
             call.budget,
             &mut answer,
+            tally,
         );
     }
     answer
@@ -217,6 +223,7 @@ pub fn ask_in(
     sheet: &mut CheckedSheet,
     store: &mut CheckedStore,
     run: &mut Run,
+    tally: &mut Rows,
 ) -> Fields {
     // SAFETY: the scratch is borrowed for writing.
     unsafe {
@@ -226,6 +233,7 @@ pub fn ask_in(
             &mut *sheet.notes,
             &mut *store.words,
             &mut *run.words,
+            tally,
         )
     }
 }
@@ -240,6 +248,7 @@ unsafe fn ask_within(
     notes: *mut [u8; NOTES],
     store: *mut [u16; STORE],
     run: *mut [u64; RUN],
+    tally: &mut Rows,
 ) -> Fields {
     let mut answer = [0; 6];
     // SAFETY: all is borrowed, for reading or writing as the call has it, and the scratch is the caller's to see to. Nothing else is
@@ -259,6 +268,7 @@ unsafe fn ask_within(
             store,
             run,
             &mut answer,
+            tally,
         );
     }
     answer
@@ -311,7 +321,7 @@ pub fn check_store(
     (number, place)
 }
 
-/// One question to a checked sheet and a checked store.
+/// One question to a checked sheet and a checked store. `tally` is filled whole, whatever it held.
 ///
 /// # Safety
 ///
@@ -323,6 +333,7 @@ pub unsafe fn ask_checked(
     sheet: &CheckedSheet,
     store: &mut CheckedStore,
     run: &mut Run,
+    tally: &mut Rows,
 ) -> Fields {
     let mut answer = [0; 6];
     // SAFETY: all is borrowed, for reading or writing as the call has it. What is required of the two checked ones is the caller's to
@@ -342,6 +353,7 @@ pub unsafe fn ask_checked(
             &mut *store.words,
             &mut *run.words,
             &mut answer,
+            tally,
         );
     }
     answer

@@ -4,6 +4,8 @@ use std::collections::BTreeMap;
 use std::fs;
 use std::path::Path;
 
+use calls::tally::{APPLICATIONS, CONDITIONS, TALLY_ROWS};
+
 /// A call's parameters, one for each machine word that is passed, and its result.
 type Calls = BTreeMap<String, (Vec<String>, String)>;
 
@@ -254,6 +256,32 @@ fn rust_and_c_declare_the_same_calls() {
         ]
     );
     assert_eq!(result, "u32");
+    for call in ["sofretu_ask", "sofretu_ask_in", "sofretu_ask_checked"] {
+        let (parameters, _) = &rust[call];
+        assert!(
+            parameters.ends_with(&["*mut [i64; 6]".into(), "*mut [u64; 34]".into()]),
+            "{call}: {parameters:?}"
+        );
+    }
+}
+
+#[test]
+fn the_rows_of_a_tally_have_the_same_numbers() {
+    let sizes = Sizes::read();
+    let header = text("include/sofretu.h");
+    // What stands after a name and what comes between the two, up to the first that is no digit.
+    let declared = |name: &str| -> usize {
+        let rest = between(&header, name, "\n")[0];
+        let digits: String = rest.chars().take_while(char::is_ascii_digit).collect();
+        digits.parse().unwrap_or_else(|_| panic!("{name}{rest}"))
+    };
+    for (rust, rattle, c) in [
+        (TALLY_ROWS, "TALLY_ROWS", "SOFRETU_TALLY_ROWS "),
+        (APPLICATIONS, "APPLICATIONS_ROW", "SOFRETU_APPLICATIONS = "),
+        (CONDITIONS, "CONDITIONS_ROW", "SOFRETU_CONDITIONS = "),
+    ] {
+        assert_eq!((sizes.value(rattle), declared(c)), (rust, rust), "{c}");
+    }
 }
 
 #[test]

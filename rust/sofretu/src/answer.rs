@@ -2,7 +2,7 @@
 
 use std::fmt;
 
-use calls::{Refusal, Stop};
+use calls::{Refusal, Rows, Stop, Tally};
 
 /// Null where a Node is written as a number.
 const NULL: u16 = 65_535;
@@ -66,6 +66,8 @@ pub enum Answer {
         steps: u64,
         /// How many entries the store holds afterwards.
         kept: u64,
+        /// Where the steps went.
+        tally: Tally,
     },
     /// No value.
     Refusal {
@@ -77,19 +79,33 @@ pub enum Answer {
         steps: u64,
         /// How many entries the store holds afterwards; under stops 1 to 13 the number that was lent.
         kept: u64,
+        /// Where the steps before the stop went.
+        tally: Tally,
     },
 }
 
 impl Answer {
-    /// The answer that six fields stand for, if they are those of an answer.
-    pub(crate) fn from_fields(fields: [i64; 6]) -> Option<Answer> {
+    /// The answer that six fields and the rows of a tally stand for, if they are those of an answer: the rows add up to the steps.
+    ///
+    /// It is put into its caller, so that the rows are copied once.
+    #[inline(always)]
+    pub(crate) fn from_fields(fields: [i64; 6], rows: &Rows) -> Option<Answer> {
         let [number, place, typ, value, steps, kept] = fields;
         let place = u64::try_from(place).ok()?;
         let steps = u64::try_from(steps).ok()?;
         let kept = kept as u64;
+        let tally = Tally::from(*rows);
+        if tally.total() != steps {
+            return None;
+        }
         if number == 0 && place == 0 {
             let value = Value::from_fields(typ, value)?;
-            return Some(Answer::Value { value, steps, kept });
+            return Some(Answer::Value {
+                value,
+                steps,
+                kept,
+                tally,
+            });
         }
         let stop = Stop::from_number(u32::try_from(number).ok()?)?;
         ((typ, value) == (0, 0)).then_some(Answer::Refusal {
@@ -97,6 +113,7 @@ impl Answer {
             place,
             steps,
             kept,
+            tally,
         })
     }
 
@@ -105,7 +122,9 @@ impl Answer {
     /// A number kept above the greatest `i64`, which only a refused call can be lent, is in two's complement.
     pub fn fields(&self) -> [i64; 6] {
         match *self {
-            Answer::Value { value, steps, kept } => {
+            Answer::Value {
+                value, steps, kept, ..
+            } => {
                 let (typ, value) = value.fields();
                 [0, 0, typ, value, steps as i64, kept as i64]
             }
@@ -114,6 +133,7 @@ impl Answer {
                 place,
                 steps,
                 kept,
+                ..
             } => [
                 stop.number().into(),
                 place as i64,
@@ -146,6 +166,27 @@ impl Answer {
             Answer::Value { kept, .. } | Answer::Refusal { kept, .. } => kept,
         }
     }
+
+    /// Where the counted steps went: as many as [`steps`](Answer::steps).
+    ///
+    /// ```
+    /// use sofretu::{ask, Call};
+    ///
+    /// // One node with an Int attribute, whose figure is 7; and the sum of the attribute with itself, in a store that keeps it.
+    /// let sheet = [0x41, 2, 0, 0x4E, 0, 0x56, 0, 0, 0, 7, 0, 0, 0, 0x5A];
+    /// let question = [0x21, 0x21, 0x14, 4, 0x22, 0, 0x13, 0, 0, 0x10, 0x22, 0, 0x13, 0, 0, 0x10];
+    /// let answer = ask(Call { sheet: &sheet, question: &question, store: &mut [0; 12], kept: 0, budget: 100 });
+    ///
+    /// let tally = answer.tally();
+    /// assert_eq!((tally.attribute(0), tally.applications(), tally.conditions()), (2, 2, 0));
+    /// assert_eq!(tally.total(), answer.steps());
+    /// assert_eq!(tally.to_string(), "4 steps: 2 of attribute 0, 2 applications");
+    /// ```
+    pub fn tally(&self) -> &Tally {
+        match self {
+            Answer::Value { tally, .. } | Answer::Refusal { tally, .. } => tally,
+        }
+    }
 }
 
 /// The six fields, as the report program prints them.
@@ -160,6 +201,15 @@ impl fmt::Display for Answer {
 mod tests {
     use super::*;
 
+    /// A tally of so many steps, in several rows.
+    fn rows(steps: i64) -> Rows {
+        let mut rows = [0; 34];
+        for step in 0..steps {
+            rows[[0, 31, 32, 33][step as usize % 4]] += 1;
+        }
+        rows
+    }
+
     #[test]
     fn an_answers_fields_are_those_it_was_read_from() {
         let mut values = vec![(0, 0), (1, 0), (1, 1), (3, 0), (3, 1_023), (3, 65_535)];
@@ -169,8 +219,10 @@ mod tests {
             .map(|(typ, value)| [0, 0, typ, value, 8, 5])
             .chain((1..=16).map(|number| [number, 3, 0, 0, 2, -1]));
         for fields in answers {
-            let answer = Answer::from_fields(fields).expect("an answer");
+            let rows = rows(fields[4]);
+            let answer = Answer::from_fields(fields, &rows).expect("an answer");
             assert_eq!(answer.fields(), fields);
+            assert_eq!(*answer.tally().rows(), rows);
         }
     }
 
@@ -192,7 +244,21 @@ mod tests {
             [14, -1, 0, 0, 1, 0],
         ];
         for fields in others {
-            assert_eq!(Answer::from_fields(fields), None, "{fields:?}");
+            let read = Answer::from_fields(fields, &rows(fields[4]));
+            assert_eq!(read, None, "{fields:?}");
+        }
+    }
+
+    #[test]
+    fn rows_that_do_not_add_up_to_the_steps_are_no_answers() {
+        for fields in [[0, 0, 2, 700, 8, 5], [14, 0, 0, 0, 8, 5]] {
+            let mut wrapped = rows(8);
+            wrapped[5] = 1 << 63;
+            wrapped[6] = 1 << 63;
+            for rows in [rows(7), rows(9), wrapped, [u64::MAX; 34]] {
+                assert_eq!(Answer::from_fields(fields, &rows), None, "{rows:?}");
+            }
+            assert!(Answer::from_fields(fields, &rows(8)).is_some());
         }
     }
 }

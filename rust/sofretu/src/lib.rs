@@ -38,15 +38,23 @@
 //! let mut session = Session::open(&sheet, &mut store)?;
 //!
 //! let first = session.ask(&DIAL_1, 1_000_000);
-//! assert_eq!(first, Answer::Value { value: Value::Int(700), steps: 8, kept: 5 });
+//! assert!(matches!(first, Answer::Value { value: Value::Int(700), steps: 8, kept: 5, .. }));
+//!
+//! // The tally tells where the steps went: up of node 1, own and dial of nodes 0 and 1, equal of two arguments, and the IF.
+//! assert_eq!(
+//!     first.tally().to_string(),
+//!     "8 steps: 1 of attribute 0, 2 of attribute 1, 2 of attribute 2, 2 applications, 1 condition"
+//! );
 //!
 //! // Now it is kept, and takes one step.
-//! assert_eq!(session.ask(&DIAL_1, 1_000_000).steps(), 1);
+//! let again = session.ask(&DIAL_1, 1_000_000);
+//! assert_eq!((again.steps(), again.tally().attribute(2)), (1, 1));
 //! assert_eq!(session.ask(&DIAL_2, 1_000_000).value()?, Value::Int(811));
 //!
 //! let refused = session.ask(&OWN_OF_NULL, 1_000_000);
-//! assert_eq!(refused, Answer::Refusal { stop: Stop::Null, place: 0, steps: 1, kept: 8 });
+//! assert!(matches!(refused, Answer::Refusal { stop: Stop::Null, place: 0, steps: 1, kept: 8, .. }));
 //! assert_eq!(refused.value().unwrap_err().to_string(), "stop 14: an attribute of null was due");
+//! assert_eq!(refused.tally().to_string(), "1 step: 1 of attribute 0");
 //!
 //! // The store tells what it keeps, in the order in which it was kept.
 //! let last = store.entries().last().expect("eight are kept")?;
@@ -71,7 +79,7 @@ mod store;
 
 pub use answer::{Answer, Value};
 #[doc(inline)]
-pub use calls::{Call, Origin, Refusal, Stop};
+pub use calls::{Call, Origin, Refusal, Stop, Tally, TALLY_ROWS};
 pub use library::{ask, ask_cleared, check, Scratch, Session, Sheet};
 pub use store::{Entry, Store, ENTRY, MOST_ENTRIES};
 

@@ -11,7 +11,7 @@ use std::fmt;
 use std::hint::black_box;
 use std::mem::MaybeUninit;
 
-use calls::{Call, Refusal, Stop};
+use calls::{Call, Refusal, Rows, Stop, TALLY_ROWS};
 use sofretu_sys::{CheckedSheet, CheckedStore, Fields, Found, Run};
 
 use crate::answer::Answer;
@@ -131,13 +131,16 @@ impl<'s, 'a> Session<'s, 'a> {
             kept: *kept,
             budget,
         };
-        // SAFETY: the checked sheet is as the sheet's check left it, in a private field beside the bytes, which are borrowed for as long
-        // as the sheet lives. The checked store is as the store's check or the question before left it: the session alone holds the
-        // store's `&mut`, and writes its bytes and its number kept here only.
-        let answer =
-            unsafe { sofretu_sys::ask_checked(call, checked, &mut self.checked, &mut self.run) };
-        *kept = answer[5] as u64;
-        answered(answer)
+        let (checked_store, run) = (&mut self.checked, &mut self.run);
+        answered(|tally| {
+            // SAFETY: the checked sheet is as the sheet's check left it, in a private field beside the bytes, which are borrowed for as long
+            // as the sheet lives. The checked store is as the store's check or the question before left it: the session alone holds the
+            // store's `&mut`, and writes its bytes and its number kept here only.
+            let fields =
+                unsafe { sofretu_sys::ask_checked(call, checked, checked_store, run, tally) };
+            *kept = fields[5] as u64;
+            fields
+        })
     }
 
     /// The sheet.
@@ -177,12 +180,9 @@ impl Scratch {
 
     /// As [`ask`], with this memory in place of the stack's.
     pub fn ask(&mut self, call: Call) -> Answer {
-        answered(sofretu_sys::ask_in(
-            call,
-            &mut self.sheet,
-            &mut self.store,
-            &mut self.run,
-        ))
+        answered(|tally| {
+            sofretu_sys::ask_in(call, &mut self.sheet, &mut self.store, &mut self.run, tally)
+        })
     }
 }
 
@@ -197,16 +197,16 @@ impl fmt::Debug for Scratch {
 /// It takes nothing from the heap and up to 512 KB from the stack. For more than a few questions open a [`Session`].
 ///
 /// ```
-/// use sofretu::{ask, Answer, Call, Value};
+/// use sofretu::{ask, Answer, Call, Tally, Value};
 ///
 /// // The shortest sheet, and a question that is a number.
 /// let call = Call { sheet: &[0x5A], question: &[0x12, 5, 0, 0, 0], store: &mut [], kept: 0, budget: 0 };
-/// assert_eq!(ask(call), Answer::Value { value: Value::Int(5), steps: 0, kept: 0 });
+/// assert_eq!(ask(call), Answer::Value { value: Value::Int(5), steps: 0, kept: 0, tally: Tally::default() });
 /// ```
 pub fn ask(call: Call) -> Answer {
     reach_down_the_stack();
     // SAFETY: the stack was reached for.
-    answered(unsafe { sofretu_sys::ask(call) })
+    answered(|tally| unsafe { sofretu_sys::ask(call, tally) })
 }
 
 /// As [`ask`], by the library's own `sofretu_ask`, which clears its scratch: some microseconds more. It is for those who lend no memory
@@ -214,7 +214,7 @@ pub fn ask(call: Call) -> Answer {
 pub fn ask_cleared(call: Call) -> Answer {
     reach_down_the_stack();
     // SAFETY: the stack was reached for.
-    answered(unsafe { sofretu_sys::ask_cleared(call) })
+    answered(|tally| unsafe { sofretu_sys::ask_cleared(call, tally) })
 }
 
 /// Whether a call is refused before its run: the first of stops 1 to 13 that holds. It writes nothing.
@@ -245,6 +245,11 @@ fn verdict((number, place): Found) -> Result<(), Refusal> {
     }
 }
 
-fn answered(fields: Fields) -> Answer {
-    Answer::from_fields(fields).unwrap_or_else(|| panic!("no answer of document 01: {fields:?}"))
+/// The answer of a call that is lent a tally.
+#[inline]
+fn answered(call: impl FnOnce(&mut Rows) -> Fields) -> Answer {
+    let mut rows = [0; TALLY_ROWS];
+    let fields = call(&mut rows);
+    Answer::from_fields(fields, &rows)
+        .unwrap_or_else(|| panic!("no answer of document 01: {fields:?}, {rows:?}"))
 }

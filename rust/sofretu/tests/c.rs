@@ -29,10 +29,23 @@ fn output_of(source: &str, more: &[&str]) -> String {
 }
 
 #[test]
-fn the_example_prints_document_01s_four_lines() {
+fn the_example_prints_document_01s_four_lines_and_a_tally() {
+    let output = output_of("examples/c/ask.c", &[]);
+    let lines: Vec<&str> = output.lines().collect();
     assert_eq!(
-        output_of("examples/c/ask.c", &[]),
-        "0 0 2 700 8 5\n0 0 2 700 1 5\n0 0 2 811 6 7\n14 0 0 0 1 8\n"
+        lines,
+        [
+            "0 0 2 700 8 5",
+            "0 0 2 700 1 5",
+            "0 0 2 811 6 7",
+            "14 0 0 0 1 8",
+            "steps of the first question:",
+            "attribute 0: 1",
+            "attribute 1: 2",
+            "attribute 2: 2",
+            "applications: 2",
+            "conditions: 1",
+        ]
     );
 }
 

@@ -1,8 +1,8 @@
 //! The safe interface at work: what a session keeps, what is refused where, and that the three ways of asking agree.
 
 use sofretu::{
-    ask, check, Answer, Call, Entry, Origin, Refusal, Scratch, Session, Sheet, Stop, Store, Value,
-    MOST_STEPS,
+    ask, ask_cleared, check, Answer, Call, Entry, Origin, Refusal, Scratch, Session, Sheet, Stop,
+    Store, Tally, Value, MOST_STEPS,
 };
 
 /// One Int attribute with an Int parameter, on one node: the parameter and one more.
@@ -18,6 +18,13 @@ fn after(parameter: i32) -> Vec<u8> {
     let mut question = vec![0x22, 0, 0x13, 0, 0, 0x12];
     question.extend(parameter.to_le_bytes());
     question
+}
+
+/// A tally of the one attribute and of applications.
+fn tally(attribute: u64, applications: u64) -> Tally {
+    let mut rows = [0; 34];
+    (rows[0], rows[32]) = (attribute, applications);
+    Tally::from(rows)
 }
 
 /// A call with a store that has room for nothing.
@@ -37,12 +44,17 @@ fn a_session_keeps_what_it_works_out() {
     assert_eq!((sheet.attributes(), sheet.nodes()), (1, 1));
     let mut store = Store::with_capacity(2);
     let mut session = Session::open(&sheet, &mut store).expect("an empty store");
-    for (parameter, steps, kept) in [(5, 3, 1), (5, 1, 1), (i32::MAX, 3, 2), (9, 3, 2), (9, 3, 2)] {
-        let value = Value::Int(parameter.saturating_add(1));
-        assert_eq!(
-            session.ask(&after(parameter), MOST_STEPS),
-            Answer::Value { value, steps, kept }
-        );
+    // What is not kept takes the attribute's step and the two of add.
+    for (parameter, applications, kept) in
+        [(5, 2, 1), (5, 0, 1), (i32::MAX, 2, 2), (9, 2, 2), (9, 2, 2)]
+    {
+        let expected = Answer::Value {
+            value: Value::Int(parameter.saturating_add(1)),
+            steps: 1 + applications,
+            kept,
+            tally: tally(1, applications),
+        };
+        assert_eq!(session.ask(&after(parameter), MOST_STEPS), expected);
         assert_eq!(session.store().kept(), kept);
     }
     let again = Session::open(&sheet, &mut store).map(|session| session.store().clone());
@@ -64,6 +76,7 @@ fn a_refused_question_leaves_the_session_as_it_was() {
         let answer = session.ask(&question, budget);
         assert_eq!(answer.value(), Err(Refusal { stop, place: 0 }));
         assert_eq!((answer.steps(), answer.kept()), (0, 1));
+        assert_eq!(*answer.tally(), Tally::default());
         assert_eq!(stop.origin(), Origin::Asker);
         assert_eq!(*session.store(), before);
     }
@@ -181,17 +194,18 @@ fn one_sheet_serves_many_sessions_on_many_threads() {
 #[test]
 fn the_ways_of_asking_agree() {
     let mut scratch = Scratch::new();
-    let mut stores = [[7; 24]; 2];
+    let mut stores = [[7; 24]; 3];
     let mut kept = 0;
     for question in [after(3), after(4), vec![0x30], after(3), after(5)] {
-        let [first, second] = stores.each_mut().map(|store| Call {
+        let [first, second, third] = stores.each_mut().map(|store| Call {
             store,
             kept,
             ..within(&ONE_MORE, &question, 9)
         });
-        let (first, second) = (ask(first), scratch.ask(second));
-        assert_eq!(first, second);
-        assert_eq!(stores[0], stores[1]);
+        let first = ask(first);
+        assert_eq!(first, ask_cleared(second));
+        assert_eq!(first, scratch.ask(third));
+        assert!(stores.iter().all(|store| *store == stores[0]));
         kept = first.kept();
     }
     assert_eq!(kept, 2);
@@ -212,6 +226,7 @@ fn a_call_refused_before_its_run_is_refused_by_the_check() {
     assert_eq!(check(&within(&ONE_MORE, &question, 2)), Ok(()));
     let spent = ask(within(&ONE_MORE, &question, 2));
     assert_eq!(spent.to_string(), "15 0 0 0 2 0");
+    assert_eq!(*spent.tally(), tally(1, 1));
 }
 
 #[test]

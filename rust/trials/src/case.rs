@@ -5,6 +5,7 @@ use std::str::SplitWhitespace;
 
 use oracle::ask::Answer;
 use oracle::store::ENTRY;
+use oracle::tally::ZEROS;
 
 /// A question and its budget.
 #[derive(Clone, Debug, PartialEq, Eq)]
@@ -47,6 +48,8 @@ impl fmt::Display for Listed {
         writeln!(f, "store {} {} {store}", case.store.len(), case.kept)?;
         for (ask, answer) in case.asks.iter().zip(&self.answers) {
             writeln!(f, "ask {} {} -> {answer}", ask.budget, hex(&ask.question))?;
+            let rows = answer.tally.map(|steps| steps.to_string());
+            writeln!(f, "tally {}", rows.join(" "))?;
         }
         let entries = &self.store[..bytes_kept(&self.store, self.kept)];
         writeln!(f, "left {} {}", self.kept, hex(entries))
@@ -56,16 +59,22 @@ impl fmt::Display for Listed {
 /// Reads the text form. An error names its line.
 pub fn read_lists(text: &str) -> Result<Vec<Listed>, String> {
     let mut lists = Vec::new();
-    let mut pending: Option<Listed> = None;
+    // A list without its `left` line, and the six fields of an answer without its tally.
+    let mut pending: Option<(Listed, Option<[i64; 6]>)> = None;
     for (number, line) in text.lines().enumerate() {
         let mut words = line.split_whitespace();
         let read = match (words.next(), &mut pending) {
             (None, _) => Some(()),
-            (Some("sheet"), None) => start(&mut words).map(|list| pending = Some(list)),
-            (Some("store"), Some(list)) => read_store(&mut words, list),
-            (Some("ask"), Some(list)) => read_ask(&mut words, list),
-            (Some("left"), Some(list)) => read_left(&mut words, list).map(|()| {
-                lists.extend(pending.take());
+            (Some("sheet"), None) => start(&mut words).map(|list| pending = Some((list, None))),
+            (Some("store"), Some((list, None))) => read_store(&mut words, list),
+            (Some("ask"), Some((list, six @ None))) => {
+                read_ask(&mut words, list).map(|fields| *six = Some(fields))
+            }
+            (Some("tally"), Some((list, six))) => six
+                .take()
+                .and_then(|fields| read_tally(&mut words, fields, list)),
+            (Some("left"), Some((list, None))) => read_left(&mut words, list).map(|()| {
+                lists.extend(pending.take().map(|(list, _)| list));
             }),
             _ => None,
         };
@@ -104,21 +113,27 @@ fn read_store(words: &mut SplitWhitespace, list: &mut Listed) -> Option<()> {
     Some(())
 }
 
-fn read_ask(words: &mut SplitWhitespace, list: &mut Listed) -> Option<()> {
+/// The six fields of the answer, whose tally is on the next line.
+fn read_ask(words: &mut SplitWhitespace, list: &mut Listed) -> Option<[i64; 6]> {
     let budget = number(words)?;
     let question = bytes(words.next()?)?;
     if words.next()? != "->" {
         return None;
     }
     list.case.asks.push(Ask { budget, question });
-    list.answers.push(Answer {
-        number: number(words)?,
-        place: number(words)?,
-        typ: number(words)?,
-        value: number(words)?,
-        steps: number(words)?,
-        kept: number(words)?,
-    });
+    let mut fields = [0; 6];
+    for field in &mut fields {
+        *field = number(words)?;
+    }
+    Some(fields)
+}
+
+fn read_tally(words: &mut SplitWhitespace, fields: [i64; 6], list: &mut Listed) -> Option<()> {
+    let mut tally = ZEROS;
+    for row in &mut tally {
+        *row = number(words)?;
+    }
+    list.answers.push(Answer::new(fields, tally));
     Some(())
 }
 

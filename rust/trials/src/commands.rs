@@ -9,7 +9,7 @@ use oracle::plain;
 use oracle::sheet::Sheet;
 
 use crate::case::{read_lists, Case, Listed};
-use crate::compare::Counts;
+use crate::compare::{adds_up, shown, Counts};
 use crate::demand3::{demand3, PLAIN_LIMIT};
 use crate::engine::Engine;
 use crate::soak::soak;
@@ -37,7 +37,7 @@ pub fn vectors(engines: &mut [Named], file: &str) -> Result<(), String> {
             for answer in &answered.answers {
                 counts.answer(answer);
             }
-            if answered != *listed {
+            if answered != *listed || !answered.answers.iter().all(adds_up) {
                 different += 1;
                 println!("the file says\n{listed}{name} says\n{answered}");
             }
@@ -47,11 +47,13 @@ pub fn vectors(engines: &mut [Named], file: &str) -> Result<(), String> {
     }
     match different {
         0 => Ok(()),
-        _ => Err(format!("{different} lists differ")),
+        _ => Err(format!(
+            "{different} lists differ, or their rows do not add up"
+        )),
     }
 }
 
-/// Puts generated lists to a check. Every number from 0 to 16 must be met.
+/// Puts generated lists to a check. Every number from 0 to 16 and every row of the tally must be met.
 pub fn run(
     cases: u64,
     seed: u64,
@@ -65,9 +67,10 @@ pub fn run(
     })?;
     print!("{counts}");
     println!("{cases} lists of seed {seed}");
-    match counts.unmet()[..] {
-        [] => Ok(()),
-        ref unmet => Err(format!("numbers never met: {unmet:?}")),
+    match (&counts.unmet()[..], &counts.unmet_rows()[..]) {
+        ([], []) => Ok(()),
+        ([], rows) => Err(format!("rows never met: {rows:?}")),
+        (numbers, _) => Err(format!("numbers never met: {numbers:?}")),
     }
 }
 
@@ -85,10 +88,10 @@ pub fn replay(engines: &mut [Named], file: &str) -> Result<(), String> {
             let budget = ask.budget;
             println!(
                 "question {place}, budget {budget}: the file says {}",
-                listed.answers[place]
+                shown(&listed.answers[place])
             );
             for ((name, _), answered) in engines.iter().zip(&answered) {
-                println!("  {name}: {}", answered.answers[place]);
+                println!("  {name}: {}", shown(&answered.answers[place]));
             }
             if let Some(sheet) = &sheet {
                 if let Ok(question) = read_question(&ask.question, sheet) {

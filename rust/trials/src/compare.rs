@@ -1,9 +1,10 @@
-//! An engine compared with the oracle: every field of every answer, every byte of the store after it.
+//! An engine compared with the oracle: every field and every row of every answer, every byte of the store after it.
 
+use std::array;
 use std::collections::{BTreeMap, BTreeSet};
 use std::fmt;
 
-use calls::Call;
+use calls::{Call, Tally};
 use oracle::ask::Answer;
 use oracle::store::{ENTRY, MOST_ENTRIES};
 
@@ -19,11 +20,19 @@ pub struct Counts {
     pub checks: BTreeMap<&'static str, u64>,
     /// The capacities of first stores that passed their checks.
     pub capacities: BTreeSet<usize>,
+    /// The steps of those answers, row by row.
+    pub steps: Tally,
 }
 
 impl Counts {
     pub fn answer(&mut self, answer: &Answer) {
         *self.answers.entry(answer.number).or_default() += 1;
+        self.tally(&answer.tally.into());
+    }
+
+    fn tally(&mut self, more: &Tally) {
+        let (rows, more) = (*self.steps.rows(), more.rows());
+        self.steps = array::from_fn(|row| rows[row].saturating_add(more[row])).into();
     }
 
     pub fn check(&mut self, part: &'static str) {
@@ -38,6 +47,7 @@ impl Counts {
             *self.checks.entry(part).or_default() += count;
         }
         self.capacities.extend(&other.capacities);
+        self.tally(&other.steps);
     }
 
     /// The numbers from 0 to 16 that no answer had.
@@ -45,6 +55,12 @@ impl Counts {
         (0..=16)
             .filter(|number| !self.answers.contains_key(number))
             .collect()
+    }
+
+    /// The rows of the tally that no step was in.
+    pub fn unmet_rows(&self) -> Vec<usize> {
+        let rows = self.steps.rows();
+        (0..rows.len()).filter(|row| rows[*row] == 0).collect()
     }
 }
 
@@ -60,11 +76,21 @@ impl fmt::Display for Counts {
             let capacities = self.capacities.len();
             writeln!(f, "capacities: {capacities} of {}", MOST_ENTRIES + 1)?;
         }
-        Ok(())
+        writeln!(f, "{}", self.steps)
     }
 }
 
-/// Where an engine differs from the oracle.
+/// Whether the rows of an answer's tally add up to its steps.
+pub fn adds_up(answer: &Answer) -> bool {
+    u64::try_from(answer.steps) == Ok(Tally::from(answer.tally).total())
+}
+
+/// The six fields of an answer, and its tally in words.
+pub fn shown(answer: &Answer) -> String {
+    format!("{answer} ({})", Tally::from(answer.tally))
+}
+
+/// Where an engine differs from the oracle, or where the rows of both do not add up to their steps.
 #[derive(Clone, Debug, PartialEq, Eq)]
 pub struct Mismatch {
     /// The question's number in the list, from 0.
@@ -80,7 +106,9 @@ impl fmt::Display for Mismatch {
         write!(
             f,
             "question {}: oracle {}, engine {}",
-            self.question, self.expected, self.answer
+            self.question,
+            shown(&self.expected),
+            shown(&self.answer)
         )?;
         if let Some((at, expected, got)) = self.byte {
             write!(
@@ -108,7 +136,7 @@ pub fn compare<E: Engine + ?Sized>(engine: &mut E, case: &Case) -> Result<Counts
         let byte = (0..store.len())
             .find(|at| store[*at] != lent.bytes[*at])
             .map(|at| (at, lent.bytes[at], store[at]));
-        if answer != expected || byte.is_some() {
+        if answer != expected || byte.is_some() || !adds_up(&answer) {
             mismatch = Some(Box::new(Mismatch {
                 question,
                 expected,

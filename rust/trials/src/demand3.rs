@@ -4,13 +4,14 @@
 //!   the list, brings that ending in at most n steps, or stop 16.
 //! - (b) Whatever the budget, such an ending is reported only if plain Saiga comes to the same in no fewer steps.
 //! - (c) Where the list brings such an ending, any larger store brings the same one there in no more steps.
-//! - (d) From any one store, every larger permitted budget gives the same answer and leaves the same store, unless the
-//!   smaller budget's answer was 15.
+//! - (d) From any one store, every larger permitted budget gives the same answer, its tally included, and leaves the same store,
+//!   unless the smaller budget's answer was 15.
 //!
 //! (a) to (c) are for accepted sheets and lists that start with nothing kept. Where plain Saiga still runs after the
 //! limit, (a) is not tried, and (b) cannot be settled: a kept value can spare any number of steps.
 //!
-//! Beside them, with a store of capacity 0 every step is a plain one: an ending is then plain Saiga's, count and all.
+//! Beside them, with a store of capacity 0 every step is a plain one: an ending is then plain Saiga's, count and all. And the rows of every
+//! answer add up to its steps (document 02, F-2).
 
 use std::fmt;
 use std::mem;
@@ -22,7 +23,7 @@ use oracle::sheet::Sheet;
 use oracle::store::{well_shaped, ENTRY, MOST_ENTRIES};
 
 use crate::case::{Ask, Case};
-use crate::compare::Counts;
+use crate::compare::{adds_up, shown, Counts};
 use crate::engine::{Engine, Lent};
 
 /// How many steps plain Saiga is given.
@@ -39,8 +40,9 @@ const B_UNSETTLED: &str = "demand 3 (b), not settled";
 const C: &str = "demand 3 (c)";
 const D: &str = "demand 3 (d)";
 const CAPACITY_0: &str = "capacity 0";
+const TALLY: &str = "tally";
 
-/// A part of demand 3 that an engine breaks, or the check of capacity 0.
+/// A part of demand 3 that an engine breaks, or the check of capacity 0 or of tallies.
 #[derive(Clone, Debug, PartialEq, Eq)]
 pub struct Violation {
     pub part: &'static str,
@@ -146,9 +148,11 @@ impl Place<'_> {
             tried.push(own);
             tried.sort_by_key(|tried| tried.budget);
         } else {
+            try_tally(&own.answer, counts).map_err(|detail| (TALLY, detail))?;
             self.try_b(&own, counts).map_err(|detail| (B, detail))?;
         }
         for tried in &tried {
+            try_tally(&tried.answer, counts).map_err(|detail| (TALLY, detail))?;
             self.try_a(tried, counts).map_err(|detail| (A, detail))?;
             self.try_b(tried, counts).map_err(|detail| (B, detail))?;
             self.try_capacity_0(tried, counts)
@@ -249,15 +253,29 @@ fn ended(answer: &Answer) -> bool {
     answer.number == 0 || answer.number == NULL
 }
 
-/// Whether an answer reports an ending of plain Saiga: number, type and value.
+/// The ending that an answer reports: number, type and value.
+fn reported(answer: &Answer) -> (i64, i64, i64) {
+    (answer.number, answer.typ, answer.value)
+}
+
+/// Whether an answer reports an ending of plain Saiga.
 fn same_ending(answer: &Answer, ending: Ending) -> bool {
-    let reported = (answer.number, answer.typ, answer.value);
+    let reported = reported(answer);
     match ending {
         Ending::Value(value, _) => value
             .base()
             .is_some_and(|base| reported == (0, i64::from(base.code()), value.number())),
         Ending::Null(_) => reported == (NULL, 0, 0),
         Ending::Running(_) => false,
+    }
+}
+
+fn try_tally(answer: &Answer, counts: &mut Counts) -> Result<(), String> {
+    counts.check(TALLY);
+    if adds_up(answer) {
+        Ok(())
+    } else {
+        Err(format!("the rows of {} do not add up", shown(answer)))
     }
 }
 
@@ -276,7 +294,28 @@ fn try_d(smaller: &Tried, larger: &Tried, counts: &mut Counts) -> Result<(), Str
     };
     Err(format!(
         "budget {} brings {}, budget {} brings {}, stores left {stores}",
-        smaller.budget, smaller.answer, larger.budget, larger.answer
+        smaller.budget,
+        shown(&smaller.answer),
+        larger.budget,
+        shown(&larger.answer)
+    ))
+}
+
+/// What two stores bring, each with its capacity.
+fn try_c(
+    (capacity, before): (usize, &Answer),
+    (larger, after): (usize, &Answer),
+    counts: &mut Counts,
+) -> Result<(), String> {
+    if !ended(before) {
+        return Ok(());
+    }
+    counts.check(C);
+    if reported(before) == reported(after) && after.steps <= before.steps {
+        return Ok(());
+    }
+    Err(format!(
+        "capacity {capacity} brings {before}, capacity {larger} brings {after}"
     ))
 }
 
@@ -307,21 +346,20 @@ fn try_larger_stores<E: Engine + ?Sized>(
         let mut violation = None;
         engine.list(&with_larger, &mut |after, _| {
             let (question, before) = before.next().expect("an answer to each question");
-            if violation.is_some() || !ended(before) {
+            if violation.is_some() {
                 return;
             }
-            counts.check(C);
-            let same =
-                (before.number, before.typ, before.value) == (after.number, after.typ, after.value);
-            if !same || after.steps > before.steps {
-                violation = Some(Violation {
-                    part: C,
-                    question,
-                    detail: format!(
-                        "capacity {capacity} brings {before}, capacity {larger} brings {after}"
-                    ),
+            let tried = try_tally(&after, counts)
+                .map_err(|detail| (TALLY, detail))
+                .and_then(|()| {
+                    try_c((capacity, before), (larger, &after), counts)
+                        .map_err(|detail| (C, detail))
                 });
-            }
+            violation = tried.err().map(|(part, detail)| Violation {
+                part,
+                question,
+                detail,
+            });
         });
         if let Some(violation) = violation {
             return Err(violation);

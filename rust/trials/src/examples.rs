@@ -1,15 +1,37 @@
 //! The examples of docs/STOPS.md.
 
+use calls::Tally;
 use oracle::ask::Answer;
 
 use crate::case::{bytes, Ask, Case};
 
-/// An example: questions with the answers that the page gives, under the heading of a number.
+/// An answer as the page gives it: its six fields, and where it says so in words, its tally.
+#[derive(Clone, Debug, PartialEq, Eq)]
+pub struct Given {
+    pub fields: [i64; 6],
+    pub tally: Option<String>,
+}
+
+/// An example: questions with their answers, under the heading of a number.
 #[derive(Clone, Debug, Default, PartialEq, Eq)]
 pub struct Example {
     pub number: i64,
     pub case: Case,
-    pub answers: Vec<Answer>,
+    pub answers: Vec<Given>,
+}
+
+impl Example {
+    /// Answers as the page would give them: with their tallies in words where it has words.
+    pub fn given(&self, answers: &[Answer]) -> Vec<Given> {
+        let words = self.answers.iter().map(|given| given.tally.is_some());
+        let answers = answers.iter().zip(words.chain(std::iter::repeat(false)));
+        answers
+            .map(|(answer, words)| Given {
+                fields: answer.fields(),
+                tally: words.then(|| Tally::from(answer.tally).to_string()),
+            })
+            .collect()
+    }
 }
 
 /// Reads the examples of a page. They stand in fences, under headings that begin with a number, each from a `sheet` line on.
@@ -54,20 +76,26 @@ fn read_line(heading: i64, line: &str, examples: &mut Vec<Example>) -> Option<()
                 return None;
             }
         }
-        ["ask", budget, ref groups @ .., "->", a, b, c, d, e, f] => {
+        ["ask", budget, ref groups @ .., "->", n, p, t, v, s, k] => {
+            let mut fields = [0; 6];
+            for (field, word) in fields.iter_mut().zip([n, p, t, v, s, k]) {
+                *field = word.parse().ok()?;
+            }
             let example = examples.last_mut()?;
             example.case.asks.push(Ask {
                 budget: budget.parse().ok()?,
                 question: repeated(groups)?,
             });
-            example.answers.push(Answer {
-                number: a.parse().ok()?,
-                place: b.parse().ok()?,
-                typ: c.parse().ok()?,
-                value: d.parse().ok()?,
-                steps: e.parse().ok()?,
-                kept: f.parse().ok()?,
+            example.answers.push(Given {
+                fields,
+                tally: None,
             });
+        }
+        ["tally", ref words @ ..] => {
+            let given = examples.last_mut()?.answers.last_mut()?;
+            if given.tally.replace(words.join(" ")).is_some() {
+                return None;
+            }
         }
         _ => return None,
     }

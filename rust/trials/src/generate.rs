@@ -3,13 +3,13 @@
 //! - `sheets.rs`: whole sheets by family: random ones with and without circles, chains deeper than 64, attributes that call
 //!   themselves with smaller parameters, circles, hostile ones (the longest rules, the deepest nesting, the widest fan-out), trees,
 //!   and large ones up to every limit and one byte beyond. Those with deep chains come with questions of which one has what another keeps
-//!   due inside 64 forms.
+//!   due inside 64 forms. The attributes that matter have any numbers from 0 to 31, so that their steps are in every row of the tally.
 //! - `collisions.rs`: sheets, questions and stores with keys that fall into one bucket of the store's index, and along its longest path.
 //! - `faults.rs`: sheets that are damaged byte by byte, mangled command by command, ill typed, ill formed or incomplete.
 //! - `draft.rs`: values, among them Ints at both ends.
 //! - `questions.rs` and `writer.rs`: questions of every type and shape, and refused ones, which stand among the others in a list.
 //! - `stores.rs`: first stores of every capacity, new, left over from earlier questions, wrong in their values, corrupted or misshapen.
-//! - here: the lists, and budgets around the steps that each question takes, the depth limit, and both ends.
+//! - here: the lists, in which questions are put again, and budgets around the steps that each question takes, the depth limit, and both ends.
 
 mod collisions;
 mod draft;
@@ -52,12 +52,16 @@ pub fn case(seed: u64, number: u64) -> Case {
 fn accepted(rng: &mut Rng, number: u64, draft: &Draft, sheet: Vec<u8>, read: &Sheet) -> Case {
     let (store, kept) = stores::lent(rng, number, draft, read);
     let most_asks = rng.pick(&[1, 4, 8, 8, 8, 30]);
-    let mut asks = Vec::new();
+    let mut asks: Vec<Ask> = Vec::new();
     let mut lent = store.clone();
     let mut lent_kept = kept;
     let least_asks = usize::from(!rng.once_in(50));
     for _ in 0..rng.between(least_asks, most_asks) {
-        let question = questions::question(rng, draft);
+        // What was asked before may be kept now.
+        let question = match asks.last() {
+            Some(last) if rng.once_in(8) => last.question.clone(),
+            _ => questions::question(rng, draft),
+        };
         let mut probe = lent.clone();
         let steps = ask_accepted(read, &mut probe, lent_kept, &question, MOST_STEPS).steps as u64;
         let budget = budget(rng, steps);
@@ -111,7 +115,9 @@ fn budget(rng: &mut Rng, steps: u64) -> u64 {
 #[cfg(test)]
 mod tests {
     use super::*;
+    use crate::compare::Counts;
     use crate::engine::Oracle;
+    use std::collections::{BTreeMap, BTreeSet};
 
     #[test]
     fn a_seed_repeats_its_cases() {
@@ -147,8 +153,56 @@ mod tests {
     }
 
     #[test]
+    fn every_row_of_the_tally_is_met_by_values_and_by_the_stops_of_a_run() {
+        let mut met: BTreeMap<i64, Counts> = BTreeMap::new();
+        for number in 0..1_500 {
+            let listed = case(9, number).answered(&mut Oracle::default());
+            for answer in &listed.answers {
+                met.entry(answer.number).or_default().answer(answer);
+            }
+        }
+        for number in [0, 14, 15] {
+            let unmet = met[&number].unmet_rows();
+            assert_eq!(unmet, [0; 0], "rows under {number}");
+        }
+        // Forms go deep by few attributes at a time.
+        let unmet = met[&16].unmet_rows();
+        assert!(unmet.len() <= 8, "rows under 16: {unmet:?}");
+        assert!([0, 31, 32, 33].iter().all(|row| !unmet.contains(row)));
+        for number in 1..=13 {
+            assert_eq!(met[&number].unmet_rows().len(), 34, "rows under {number}");
+        }
+    }
+
+    /// They show where a question is an attribute of a node, takes one step, and takes more with nothing kept.
+    #[test]
+    fn kept_occurrences_of_most_attributes_are_met() {
+        let mut kept = BTreeSet::new();
+        for number in 0..3_000 {
+            let case = case(9, number);
+            let Ok(sheet) = Sheet::read(&case.sheet) else {
+                continue;
+            };
+            let listed = case.answered(&mut Oracle::default());
+            for (ask, answer) in listed.case.asks.iter().zip(&listed.answers) {
+                if (answer.number, answer.steps) != (0, 1) || ask.question[0] != 0x22 {
+                    continue;
+                }
+                let alone = ask_accepted(&sheet, &mut [], 0, &ask.question, MOST_STEPS);
+                if alone.steps > 1 {
+                    let attribute = ask.question[1];
+                    assert_eq!(answer.tally[usize::from(attribute)], 1);
+                    kept.insert(attribute);
+                }
+            }
+        }
+        assert!(kept.len() > 16, "{kept:?}");
+        assert!(kept.contains(&0) && kept.contains(&31), "{kept:?}");
+    }
+
+    #[test]
     fn lists_start_from_stores_of_every_sort() {
-        let cases: Vec<Case> = (0..1_500).map(|number| case(5, number)).collect();
+        let cases: Vec<Case> = (0..1_500).map(|number| case(11, number)).collect();
         let with = |wanted: &dyn Fn(&Case) -> bool| cases.iter().any(wanted);
         assert!(with(&|case| case.store.is_empty()));
         assert!(with(&|case| case.store.len() == 12_288 && case.kept == 0));

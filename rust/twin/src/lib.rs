@@ -15,7 +15,7 @@ mod stores;
 mod values;
 
 pub use answers::Answer;
-pub use calls::{Call, Refusal, Stop};
+pub use calls::{Call, Refusal, Rows, Stop};
 pub use machine::{Form, Frame, Stack};
 pub use sheets::{Index, Sheet};
 pub use stores::{Links, Store};
@@ -41,14 +41,14 @@ impl Default for Scratch {
     }
 }
 
-/// A question put to a sheet and a lent store: the answer and, in the call's store, the bytes lent back. It takes some 220 KB of
-/// stack.
-pub fn ask(call: Call) -> Answer {
-    ask_in(call, &mut Scratch::default())
+/// A question put to a sheet and a lent store: the answer and, in the call's store, the bytes lent back. The tally is filled whole, whatever
+/// it held. It takes some 220 KB of stack.
+pub fn ask(call: Call, tally: &mut Rows) -> Answer {
+    ask_in(call, &mut Scratch::default(), tally)
 }
 
 /// As `ask`, in lent scratch.
-pub fn ask_in(call: Call, scratch: &mut Scratch) -> Answer {
+pub fn ask_in(call: Call, scratch: &mut Scratch, tally: &mut Rows) -> Answer {
     let opened = Sheet::check(call.sheet, &mut scratch.index).and_then(|sheet| {
         let store = Store::check(&sheet, call.store, call.kept, &mut scratch.links)?;
         Ok((sheet, store))
@@ -56,22 +56,27 @@ pub fn ask_in(call: Call, scratch: &mut Scratch) -> Answer {
     match opened {
         Ok((sheet, mut store)) => {
             let stack = &mut scratch.stack;
-            ask_checked(&sheet, &mut store, call.question, call.budget, stack)
+            ask_checked(&sheet, &mut store, call.question, call.budget, stack, tally)
         }
-        Err(refusal) => Answer::refusal(refusal, call.kept),
+        Err(refusal) => {
+            tally.fill(0);
+            Answer::refusal(refusal, call.kept)
+        }
     }
 }
 
-/// A question put to a checked sheet and a checked store, which stays checked.
+/// A question put to a checked sheet and a checked store, which stays checked. The tally is filled whole, whatever it held.
 pub fn ask_checked(
     sheet: &Sheet,
     store: &mut Store,
     question: &[u8],
     budget: u64,
     stack: &mut Stack,
+    tally: &mut Rows,
 ) -> Answer {
+    tally.fill(0);
     match check_question(sheet, question, budget, &mut stack.widths) {
-        Ok(()) => machine::run(sheet, store, question, budget, stack),
+        Ok(()) => machine::run(sheet, store, question, budget, stack, tally),
         Err(refusal) => Answer::refusal(refusal, store.kept as u64),
     }
 }

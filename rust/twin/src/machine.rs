@@ -2,7 +2,8 @@
 //! given to frames until one has an expression to step.
 
 use calls::index::Key;
-use calls::{Refusal, Stop};
+use calls::tally::{APPLICATIONS, ATTRIBUTES, CONDITIONS};
+use calls::{Refusal, Rows, Stop};
 
 use crate::answers::Answer;
 use crate::bytes::{four, int, two};
@@ -81,24 +82,26 @@ impl Budget {
         }
     }
 
-    /// Counts a step.
-    fn count(&mut self) -> Result<(), Stop> {
+    /// Counts a step in its row.
+    fn count(&mut self, row: &mut u64) -> Result<(), Stop> {
         self.allows()?;
         self.left -= 1;
+        *row += 1;
         Ok(())
     }
 }
 
-/// Runs an accepted question.
+/// Runs an accepted question. The tally is lent without steps.
 pub fn run(
     sheet: &Sheet,
     store: &mut Store,
     question: &[u8],
     budget: u64,
     stack: &mut Stack,
+    tally: &mut Rows,
 ) -> Answer {
     let mut counted = Budget { left: budget };
-    let ending = evaluate(sheet, store, question, &mut counted, stack);
+    let ending = evaluate(sheet, store, question, &mut counted, tally, stack);
     Answer {
         ending: ending.map_err(Refusal::from),
         steps: budget - counted.left,
@@ -111,6 +114,7 @@ fn evaluate(
     store: &mut Store,
     question: &[u8],
     budget: &mut Budget,
+    tally: &mut Rows,
     Stack {
         frames,
         forms,
@@ -180,7 +184,7 @@ fn evaluate(
             };
             match frames[top] {
                 Frame::Condition => {
-                    budget.count()?;
+                    budget.count(&mut tally[CONDITIONS])?;
                     if value == Value::Bool(true) {
                         frames[top] = Frame::Branch;
                     } else {
@@ -198,7 +202,7 @@ fn evaluate(
                     break;
                 }
                 Frame::Argument(function) => {
-                    budget.count()?;
+                    budget.count(&mut tally[APPLICATIONS])?;
                     value = function.apply(value);
                     height = top;
                 }
@@ -223,7 +227,8 @@ fn evaluate(
                     if open == MOST_OPEN && matches!(found, Found::Nothing(_)) {
                         return Err(Stop::Depth);
                     }
-                    budget.count()?;
+                    // A declared attribute's number is below 32. The remainder says so, and no index is tested.
+                    budget.count(&mut tally[usize::from(attribute) % ATTRIBUTES])?;
                     let result = sheet.result(attribute);
                     value = match found {
                         Found::Value(kept) => result.value(kept),

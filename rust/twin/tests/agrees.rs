@@ -1,4 +1,4 @@
-//! The twin against the second evaluator: every field of every answer, every byte of the store after it.
+//! The twin against the second evaluator: every field and every row of every answer, every byte of the store after it.
 
 use trials::case::{read_lists, Ask, Case};
 use trials::compare::{compare_check, Counts};
@@ -6,12 +6,19 @@ use trials::engine::Lent;
 use trials::examples::read_examples;
 use trials::generate;
 use trials::{compare, Answer, Call, Engine};
-use twin::{Scratch, Sheet, Store};
+use twin::{Rows, Scratch, Sheet, Store};
+
+/// A tally in which nothing is as a call leaves it.
+const LENT: Rows = [u64::MAX; 34];
 
 /// The twin in scratch that earlier calls have written.
 fn lent() -> impl Engine {
     let mut scratch = Box::<Scratch>::default();
-    move |call: Call| Answer::from(twin::ask_in(call, &mut scratch).fields())
+    move |call: Call| {
+        let mut tally = LENT;
+        let answer = twin::ask_in(call, &mut scratch, &mut tally);
+        Answer::new(answer.fields(), tally)
+    }
 }
 
 /// The twin's check, for `compare_check`.
@@ -36,9 +43,14 @@ fn checked_once(case: &Case) {
     };
     let mut lent = Lent::first(case);
     for Ask { question, budget } in &case.asks {
-        let expected = twin::ask(lent.call(&case.sheet, question, *budget));
-        let given = twin::ask_checked(&sheet, &mut store, question, *budget, stack);
+        let [mut expected_tally, mut tally] = [LENT; 2];
+        let expected = twin::ask(
+            lent.call(&case.sheet, question, *budget),
+            &mut expected_tally,
+        );
+        let given = twin::ask_checked(&sheet, &mut store, question, *budget, stack, &mut tally);
         assert_eq!(given, expected);
+        assert_eq!(tally, expected_tally);
         assert_eq!(store.entries.as_flattened(), lent.bytes);
         lent.kept = given.kept;
     }

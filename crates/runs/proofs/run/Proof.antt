@@ -1,7 +1,7 @@
 -- `runs::run` meets its contract. The loop's invariant: what holds from move to move holds of every call whose run this is (`Round`). The measure is the
 -- machine's (Cost.antt of crate engine): it falls in each round, and starts at 6 × budget + 24,961, so it bounds the rounds. Cost.antt of this crate says so of
 -- the rounds by themselves, and by the steps that they count.
-use Rattle.runs.proofs.Rounds.{Round, first-round, round-less, round-again, round-pauses, round-finishes, round-stops, paused-linked, finished-linked, stopped-linked, store-stays, links-stay, run-stays}
+use Rattle.runs.proofs.Rounds.{Round, first-round, rows-permitted, round-less, round-again, round-pauses, round-finishes, round-stops, tally-pauses, tally-finishes, tally-stops, paused-linked, finished-linked, stopped-linked, store-stays, links-stay, run-stays, rows-stay}
 use Rattle.engine.specs.Ready.{memoryOf}
 use Rattle.engine.specs.Represents.{machineIn}
 use Rattle.engine.specs.Cost.{measure}
@@ -11,11 +11,11 @@ use Rattle.runs.proofs.run.Statement.{statement}
 use Rattle.runs.proofs.run.Tie as tie
 
 abbrev Inv-loop : tie.InvT-loop
-Inv-loop sheet index notes question store₀ links₀ memory₀ limits m₀ store links memory m =
-    Round sheet index notes question (limits .budget) (limits .pause) store₀ links₀ memory₀ m₀ store links memory m
+Inv-loop sheet index notes question store₀ links₀ memory₀ tally₀ limits m₀ store links memory tally m =
+    Round sheet index notes question (limits .budget) (limits .pause) store₀ links₀ memory₀ tally₀ m₀ store links memory tally m
 
 abbrev μ-loop : tie.MeasureT-loop
-μ-loop sheet index notes question store₀ links₀ memory₀ limits m₀ store links memory m =
+μ-loop sheet index notes question store₀ links₀ memory₀ tally₀ limits m₀ store links memory tally m =
     measure (limits .budget) (machineIn sheet question (memoryOf store memory) m)
 
 pub run-spec : {M : Type 1} → statement M
@@ -26,7 +26,7 @@ run-spec =
     Inv-loop
     μ-loop
     (λ c. search first-round)
-    (λ c κs. search needs)
+    (λ c κs. (search needs, search rows-permitted))
     (λ c. search needs)
     (λ c. search round-less)
     (λ c. search round-again)
@@ -34,14 +34,17 @@ run-spec =
     (λ c. search store-stays)
     (λ c. search links-stay)
     (λ c. search run-stays)
-    (λ c. (λ lent kept whole i. search round-pauses, search paused-linked))
+    (λ c. search rows-stay)
+    (λ c. (λ lent kept whole i. search round-pauses, (λ all t. search tally-pauses, search paused-linked)))
     (λ c. search needs)
     (λ c. search store-stays)
     (λ c. search links-stay)
     (λ c. search run-stays)
-    (λ c. (λ lent kept whole i. search round-finishes, search finished-linked))
+    (λ c. search rows-stay)
+    (λ c. (λ lent kept whole i. search round-finishes, (λ all t. search tally-finishes, search finished-linked)))
     (λ c. search needs)
     (λ c. search store-stays)
     (λ c. search links-stay)
     (λ c. search run-stays)
-    (λ c. (λ lent kept whole i. search round-stops, search stopped-linked)))
+    (λ c. search rows-stay)
+    (λ c. (λ lent kept whole i. search round-stops, (λ all t. search tally-stops, search stopped-linked))))

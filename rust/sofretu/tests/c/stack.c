@@ -37,22 +37,24 @@ static sofretu_run run;
 static uint64_t found[3];
 static uint64_t place;
 static int64_t answer[SOFRETU_FIELDS];
+static uint64_t tally[SOFRETU_TALLY_ROWS];
 
 #define FOR_EACH_QUESTION for (size_t q = 0; q < sizeof questions / sizeof questions[0]; q++)
 
 static void *ask(void *unused) {
-    sofretu_ask(deep, sizeof deep, around, sizeof around, store, sizeof store, 0, 100, answer);
+    sofretu_ask(deep, sizeof deep, around, sizeof around, store, sizeof store, 0, 100, answer, tally);
     FOR_EACH_QUESTION {
-        sofretu_ask(circle, sizeof circle, questions[q].bytes, questions[q].len, store, sizeof store, 0, 100, answer);
+        sofretu_ask(circle, sizeof circle, questions[q].bytes, questions[q].len, store, sizeof store, 0, 100, answer, tally);
     }
     return unused;
 }
 
 static void *ask_in(void *unused) {
-    sofretu_ask_in(deep, sizeof deep, around, sizeof around, store, sizeof store, 0, 100, &checked_sheet, &noted_sheet, &checked_store, &run, answer);
+    sofretu_ask_in(deep, sizeof deep, around, sizeof around, store, sizeof store, 0, 100, &checked_sheet, &noted_sheet, &checked_store, &run, answer,
+                   tally);
     FOR_EACH_QUESTION {
         sofretu_ask_in(circle, sizeof circle, questions[q].bytes, questions[q].len, store, sizeof store, 0, 100, &checked_sheet, &noted_sheet,
-                       &checked_store, &run, answer);
+                       &checked_store, &run, answer, tally);
     }
     return unused;
 }
@@ -80,7 +82,7 @@ static void *check_store(void *unused) {
 static void *ask_checked(void *unused) {
     FOR_EACH_QUESTION {
         sofretu_ask_checked(circle, sizeof circle, &checked_sheet, &noted_sheet, questions[q].bytes, questions[q].len, store,
-                            sizeof store, 0, 100, &checked_store, &run, answer);
+                            sizeof store, 0, 100, &checked_store, &run, answer, tally);
     }
     return unused;
 }

@@ -31,11 +31,11 @@ pub fn question(rng: &mut Rng, draft: &Draft) -> Vec<u8> {
     match writer.rng.below(12) {
         0 | 1 => refused(&mut writer),
         2..=5 if pairs => {
-            let attribute = writer.rng.below(attributes) as u8;
+            let attribute = attribute(writer.rng, attributes);
             occurrence(&mut writer, attribute)
         }
         6..=8 if pairs => {
-            let attribute = writer.rng.below(attributes) as u8;
+            let attribute = attribute(writer.rng, attributes);
             two_occurrences(&mut writer, attribute)
         }
         _ => {
@@ -44,6 +44,15 @@ pub fn question(rng: &mut Rng, draft: &Draft) -> Vec<u8> {
             writer.expr(&Type::Base(base), room)
         }
     }
+}
+
+/// An attribute's number, where there are so many, every second time among the last five: what stands before them may be idle.
+fn attribute(rng: &mut Rng, attributes: usize) -> u8 {
+    let among = match rng.below(2) {
+        0 => attributes.min(5),
+        _ => attributes,
+    };
+    (attributes - 1 - rng.below(among)) as u8
 }
 
 /// An attribute of a node, the first and the last more often than the others.

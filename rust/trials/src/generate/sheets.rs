@@ -27,10 +27,15 @@ pub fn draft(rng: &mut Rng) -> Draft {
     }
 }
 
-/// Random attributes, nodes, figures and rules. Without circles, a rule names only attributes declared before its own.
+/// Random attributes, few or as many as there can be, nodes, figures and rules. Without circles, a rule names only attributes declared
+/// before its own.
 fn random_sheet(rng: &mut Rng, circles: bool) -> Draft {
     let mut draft = Draft::default();
-    for _ in 0..rng.between(1, 9) {
+    let attributes = match rng.below(6) {
+        0 => MOST_ATTRIBUTES,
+        _ => rng.between(1, 9),
+    };
+    for _ in 0..attributes {
         let result = rng.pick(&Base::ALL);
         let parameter = rng.pick(&[
             Base::Unit,
@@ -69,9 +74,28 @@ fn random_sheet(rng: &mut Rng, circles: bool) -> Draft {
     draft
 }
 
+/// A draft in which so many further attributes have the first numbers, the last, or any between. What stands before them are Units of nodes of kinds 0
+/// and 1.
+fn begun(rng: &mut Rng, attributes: usize) -> Draft {
+    let mut draft = Draft::default();
+    let room = MOST_ATTRIBUTES - attributes;
+    let before = match rng.below(4) {
+        0 => room,
+        1 => rng.below(room + 1),
+        _ => 0,
+    };
+    for _ in 0..before {
+        let idle = draft.attribute(Base::Unit, Base::Unit);
+        for kind in [0, 1] {
+            draft.rules.push((kind, idle, literal(Value::Unit)));
+        }
+    }
+    draft
+}
+
 /// Sheet L's attributes, and one with a parameter, over a chain of nodes that can be longer than 64, whole or with breaks.
 fn chain(rng: &mut Rng) -> Draft {
-    let mut draft = Draft::default();
+    let mut draft = begun(rng, 4);
     let up = draft.attribute(Base::Node, Base::Unit);
     let own = draft.attribute(Base::Int, Base::Unit);
     let dial = draft.attribute(Base::Int, Base::Unit);
@@ -125,7 +149,7 @@ fn chain(rng: &mut Rng) -> Draft {
 
 /// Attributes that call themselves with smaller parameters, once or twice.
 fn countdown(rng: &mut Rng) -> Draft {
-    let mut draft = Draft::default();
+    let mut draft = begun(rng, 2);
     let count = draft.attribute(Base::Int, Base::Int);
     let odd = draft.attribute(Base::Bool, Base::Int);
     for _ in 0..rng.between(1, 3) {
@@ -158,32 +182,32 @@ fn countdown(rng: &mut Rng) -> Draft {
 
 /// Attributes that lead back to themselves, some of them only on a condition.
 fn circle(rng: &mut Rng) -> Draft {
-    let mut draft = Draft::default();
     let result = rng.pick(&Base::ALL);
     let parameter = rng.pick(&Base::ALL);
-    let attributes = rng.between(1, 5) as u8;
-    for _ in 0..attributes {
-        draft.attribute(result, parameter);
-    }
+    let length = rng.between(1, 5);
+    let mut draft = begun(rng, length);
+    let attributes: Vec<u8> = (0..length)
+        .map(|_| draft.attribute(result, parameter))
+        .collect();
     let nodes = rng.between(1, 4);
     for kind in 0..nodes as u8 {
         draft.node(if rng.once_in(2) { 0 } else { kind });
     }
     for kind in 0..nodes as u8 {
-        for attribute in 0..attributes {
+        for (place, attribute) in attributes.iter().enumerate() {
             let node = if rng.once_in(3) {
                 literal(base_value(rng, Base::Node, nodes))
             } else {
                 vec![0x30]
             };
-            let around = of(&node, (attribute + 1) % attributes, &[0x31]);
+            let around = of(&node, attributes[(place + 1) % length], &[0x31]);
             let rule = if rng.once_in(4) {
                 let end = literal(base_value(rng, result, nodes));
                 if_else(&apply(2, &[&[0x30], &node]), &around, &end)
             } else {
                 around
             };
-            draft.rules.push((kind, attribute, rule));
+            draft.rules.push((kind, *attribute, rule));
         }
     }
     draft.complete(rng, 12);
@@ -192,7 +216,7 @@ fn circle(rng: &mut Rng) -> Draft {
 
 /// The longest rules, the deepest nesting and the widest fan-out, over a chain of nodes.
 fn hostile(rng: &mut Rng) -> Draft {
-    let mut draft = Draft::default();
+    let mut draft = begun(rng, 5);
     let next = draft.attribute(Base::Node, Base::Unit);
     let deep = draft.attribute(Base::Bool, Base::Bool);
     let walk = draft.attribute(Base::Node, Base::Node);
@@ -247,7 +271,7 @@ fn hostile(rng: &mut Rng) -> Draft {
 
 /// The example of document 001, figure 3, over a binary tree.
 fn tree(rng: &mut Rng) -> Draft {
-    let mut draft = Draft::default();
+    let mut draft = begun(rng, 5);
     let [left, right] = [0; 2].map(|_| draft.attribute(Base::Node, Base::Unit));
     let value = draft.attribute(Base::Int, Base::Unit);
     let least = draft.attribute(Base::Node, Base::Unit);
@@ -361,10 +385,10 @@ mod tests {
         number
     }
 
-    /// Of 60 sheets of a family, those of which the last question is stop 16 by itself and has a value after the others.
+    /// Of 240 sheets of a family, those of which the last question is stop 16 by itself and has a value after the others.
     fn spared(family: fn(&mut Rng) -> Draft, questions: &[usize]) -> usize {
         let alone = &questions[questions.len() - 1..];
-        (0..60)
+        (0..240)
             .map(|number| family(&mut Rng::new(3, number)))
             .filter(|draft| !draft.apart.is_empty() && last_number(draft, alone) == 16)
             .filter(|draft| last_number(draft, questions) == 0)
@@ -373,8 +397,8 @@ mod tests {
 
     #[test]
     fn deep_chains_come_with_questions_64_forms_apart() {
-        assert!(spared(chain, &[3, 2, 1, 0]) >= 10);
-        assert!(spared(countdown, &[0, 4]) >= 10);
+        assert!(spared(chain, &[3, 2, 1, 0]) >= 40);
+        assert!(spared(countdown, &[0, 4]) >= 40);
     }
 
     #[test]

@@ -4,6 +4,11 @@ use crate::ask;
 pub use trials::write::*;
 use trials::Answer;
 
+/// L6: equal(D)(D).
+pub fn l6() -> Vec<u8> {
+    binary(EQUAL, &d(), &d())
+}
+
 /// L10: own of (node 0's up).
 pub fn l10() -> Vec<u8> {
     of(&of(&node_literal(0), UP, &UNIT), OWN, &UNIT)

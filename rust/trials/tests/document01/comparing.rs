@@ -43,6 +43,13 @@ fn right(call: &mut Call) -> Answer {
     )
 }
 
+/// An answer with all its steps in the first row.
+fn brought(fields: [i64; 6]) -> Answer {
+    let mut tally = [0; 34];
+    tally[0] = fields[4] as u64;
+    Answer::new(fields, tally)
+}
+
 /// Whether `compare` and `demand3` let an engine by on sheet L.
 fn let_by(mut engine: impl FnMut(Call) -> Answer) -> (bool, Option<&'static str>) {
     let case = l_case(5);
@@ -66,13 +73,13 @@ fn the_oracle_passes_and_is_counted() {
 
 #[test]
 fn an_engine_that_always_says_700() {
-    let always = |_: Call| Answer::from([0, 0, 2, 700, 8, 5]);
+    let always = |_: Call| brought([0, 0, 2, 700, 8, 5]);
     assert_eq!(let_by(always), (false, Some("demand 3 (b)")));
 }
 
 #[test]
 fn an_engine_that_turns_every_question_down() {
-    let refusing = |call: Call| Answer::from([12, 0, 0, 0, 0, call.kept as i64]);
+    let refusing = |call: Call| brought([12, 0, 0, 0, 0, call.kept as i64]);
     assert_eq!(let_by(refusing), (false, Some("demand 3 (a)")));
 }
 
@@ -91,11 +98,10 @@ fn an_engine_that_never_writes_its_store() {
 #[test]
 fn an_engine_with_an_invented_step_count() {
     let inventing = |mut call: Call| {
-        let given = right(&mut call);
-        Answer {
-            steps: given.steps + 1,
-            ..given
-        }
+        let mut given = right(&mut call);
+        given.steps += 1;
+        given.tally[0] += 1;
+        given
     };
     assert_eq!(let_by(inventing), (false, Some("demand 3 (a)")));
 }
@@ -103,7 +109,7 @@ fn an_engine_with_an_invented_step_count() {
 #[test]
 fn engines_that_say_spent_or_depth_on_arrival() {
     for (number, violated) in [(15, Some("demand 3 (a)")), (16, None)] {
-        let stopping = |call: Call| Answer::from([number, 0, 0, 0, 0, call.kept as i64]);
+        let stopping = |call: Call| brought([number, 0, 0, 0, 0, call.kept as i64]);
         assert_eq!(let_by(stopping), (false, violated));
     }
 }
@@ -150,7 +156,7 @@ fn an_engine_that_goes_beyond_plain_saiga() {
     let mut engine = |mut call: Call| {
         let given = right(&mut call);
         match given.number {
-            16 => Answer::from([0, 0, 2, 0, given.steps, given.kept]),
+            16 => brought([0, 0, 2, 0, given.steps, given.kept]),
             _ => given,
         }
     };
@@ -168,7 +174,7 @@ fn with_capacity_0_the_steps_are_plain_saigas_own() {
     let hasty = |mut call: Call| {
         let given = right(&mut call);
         match given.number {
-            14 | 15 => Answer::from([14, 0, 0, 0, 0, given.kept]),
+            14 | 15 => brought([14, 0, 0, 0, 0, given.kept]),
             _ => given,
         }
     };
@@ -178,6 +184,76 @@ fn with_capacity_0_the_steps_are_plain_saigas_own() {
     assert!(with_capacity(1).is_ok());
     let violation = with_capacity(0).expect_err("a step is missing");
     assert_eq!(violation.part, "capacity 0");
+}
+
+#[test]
+fn an_engine_that_tallies_nothing() {
+    let untold = |mut call: Call| Answer {
+        tally: [0; 34],
+        ..right(&mut call)
+    };
+    assert_eq!(let_by(untold), (false, Some("tally")));
+}
+
+#[test]
+fn an_engine_that_does_not_clear_the_tally_under_a_refusal() {
+    let mut before = [0; 34];
+    let uncleared = |mut call: Call| {
+        let mut given = right(&mut call);
+        if given.number == 12 {
+            given.tally = before;
+        }
+        before = given.tally;
+        given
+    };
+    assert_eq!(let_by(uncleared), (false, Some("tally")));
+}
+
+#[test]
+fn engines_with_steps_in_other_rows() {
+    // Each attribute's steps in the next row; the conditions' among the applications. The sums are right, and so demand 3 is kept.
+    let rows: [fn(usize) -> usize; 2] = [|row| row + usize::from(row < 31), |row| row.min(32)];
+    for row_of in rows {
+        let misplacing = |mut call: Call| {
+            let given = right(&mut call);
+            let mut tally = [0; 34];
+            for (row, steps) in given.tally.into_iter().enumerate() {
+                tally[row_of(row)] += steps;
+            }
+            Answer { tally, ..given }
+        };
+        assert_eq!(let_by(misplacing), (false, None));
+    }
+}
+
+#[test]
+fn part_d_is_of_the_tally_too() {
+    let by_budget = |mut call: Call| {
+        let mut given = right(&mut call);
+        if call.budget > 77 {
+            given.tally.swap(0, 1);
+        }
+        given
+    };
+    assert_eq!(let_by(by_budget), (false, Some("demand 3 (d)")));
+}
+
+#[test]
+fn a_mismatch_of_tallies_is_shown_in_words() {
+    let mut engine = |mut call: Call| {
+        let mut given = right(&mut call);
+        given.tally.swap(1, 31);
+        given
+    };
+    let mismatch = compare(&mut engine, &case(5, &[d()])).expect_err("rows differ");
+    assert_eq!(mismatch.expected.fields(), mismatch.answer.fields());
+    assert_eq!(
+        mismatch.to_string(),
+        "question 0: oracle 0 0 2 700 8 5 \
+         (8 steps: 1 of attribute 0, 2 of attribute 1, 2 of attribute 2, 2 applications, 1 condition), \
+         engine 0 0 2 700 8 5 \
+         (8 steps: 1 of attribute 0, 2 of attribute 2, 2 of attribute 31, 2 applications, 1 condition)"
+    );
 }
 
 #[test]
@@ -262,8 +338,24 @@ fn lists_are_written_as_they_are_read() {
     lent.asks[0].budget = u64::MAX;
     let listed = lent.answered(&mut Oracle::default());
     let text = listed.to_string();
-    assert!(text.contains("\nask 18446744073709551615 220213010010 -> 11 0 0 0 0 0\n"));
-    assert!(text.contains("\nask 1000000 - -> 12 0 0 0 0 1\n"));
+    let zeros = ["0"; 34].join(" ");
+    let up_of_node_0 = format!("1{}", &zeros[1..]);
+    for (line, tally) in [
+        (
+            "ask 18446744073709551615 220213010010 -> 11 0 0 0 0 0",
+            &zeros,
+        ),
+        (
+            "ask 1000000 220122001300001010 -> 14 0 0 0 1 1",
+            &up_of_node_0,
+        ),
+        ("ask 1000000 - -> 12 0 0 0 0 1", &zeros),
+    ] {
+        assert!(
+            text.contains(&format!("\n{line}\ntally {tally}\n")),
+            "{line}"
+        );
+    }
     assert!(text.ends_with("left 1 0000000300000000ffff0000\n"));
     assert_eq!(read_lists(&text), Ok(vec![listed.clone()]));
     let twice = format!("{text}{text}");
@@ -279,8 +371,13 @@ fn a_line_that_is_not_understood_is_named() {
         (good.replace("store 12 0 -", "store 12 0 00"), "line 2"),
         (good.replace(" -> ", " = "), "line 3"),
         (good.replace("ask 1000000", "ask -1"), "line 3"),
-        (good.replace("left 1", "left 0"), "line 4"),
-        (good.replace("left 1", "left 1 zz"), "line 4"),
+        (good.replace("tally 1 2", "tally 1"), "line 4"),
+        (good.replace("tally 1", "tally 0 1"), "line 4"),
+        (good.replace("tally 1", "tally -1"), "line 4"),
+        (good.replace("tally", "ask"), "line 4"),
+        (good.replace("left", "tally"), "line 5"),
+        (good.replace("left 1", "left 0"), "line 5"),
+        (good.replace("left 1", "left 1 zz"), "line 5"),
     ];
     for (text, line) in bad {
         let error = read_lists(&text).expect_err("not understood");
@@ -288,4 +385,9 @@ fn a_line_that_is_not_understood_is_named() {
     }
     let cut = good.lines().next().expect("a line");
     assert!(read_lists(cut).is_err());
+    // An answer without its tally.
+    let lines: Vec<&str> = good.lines().collect();
+    let without = [&lines[..3], &lines[4..]].concat().join("\n");
+    let error = read_lists(&without).expect_err("not understood");
+    assert!(error.starts_with("line 4"), "{error}");
 }

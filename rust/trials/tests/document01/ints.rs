@@ -2,7 +2,6 @@
 
 use crate::ask;
 use crate::common::*;
-use trials::Answer;
 
 /// The unsigned number of four bytes, at its four ends, and the Int.
 const ENDS: [(u32, i64); 4] = [
@@ -32,9 +31,10 @@ fn the_four_ends_are_read_alike_in_every_place() {
         .concat();
         let own = of(&node_literal(0), OWN, &UNIT);
         let echo = |parameter| of(&node_literal(0), ECHO, &int(parameter));
-        let ask_in =
-            |store: &mut [u8], kept, question: &[u8]| ask(&sheet, store, kept, question, 1_000_000);
-        let brings = |steps, kept| Answer::from([0, 0, 2, value, steps, kept]);
+        let ask_in = |store: &mut [u8], kept, question: &[u8]| {
+            ask(&sheet, store, kept, question, 1_000_000).fields()
+        };
+        let brings = |steps, kept| [0, 0, 2, value, steps, kept];
 
         // The operand of an expression, and a figure.
         assert_eq!(ask_in(&mut [], 0, &int(written)), brings(0, 0));
@@ -51,7 +51,7 @@ fn the_four_ends_are_read_alike_in_every_place() {
         .concat();
         let lent = store.clone();
         assert_eq!(ask_in(&mut store, 2, &echo(5)), brings(1, 2));
-        assert_eq!(ask_in(&mut store, 2, &echo(written)).value, 9);
+        assert_eq!(ask_in(&mut store, 2, &echo(written))[3], 9);
         assert_eq!(store, lent);
     }
 }

@@ -1,5 +1,5 @@
-//! What documents 01 and 02 say, case by case, put to the second evaluator. The cases of `depth`, `ints`, `sheet_l`, `stops` and `types` are put to
-//! `crate::ask`, so that another test can put them to another engine.
+//! What documents 01 and 02 say, case by case, put to the second evaluator. The cases of `depth`, `ints`, `sheet_l`, `stops`, `tally` and
+//! `types` are put to `crate::ask`, so that another test can put them to another engine.
 
 mod common;
 mod comparing;
@@ -8,6 +8,7 @@ mod ints;
 mod page;
 mod sheet_l;
 mod stops;
+mod tally;
 mod types;
 mod vectors;
 

@@ -16,11 +16,16 @@ fn the_oracle_agrees_with_every_example() {
         assert!(!of_number.is_empty(), "no example of {number}");
         for example in of_number {
             assert!(!example.answers.is_empty(), "{example:?}");
-            assert!(example.answers.iter().all(|answer| answer.number == number));
+            assert!(example
+                .answers
+                .iter()
+                .all(|given| given.fields[0] == number));
             let answered = example.case.clone().answered(&mut Oracle::default());
-            assert_eq!(answered.answers, example.answers);
+            assert_eq!(example.given(&answered.answers), example.answers);
         }
     }
+    let mut given = examples.iter().flat_map(|example| &example.answers);
+    assert!(given.any(|given| given.tally.is_some()), "no tally");
 }
 
 #[test]
@@ -31,6 +36,10 @@ fn a_page_that_is_not_understood_says_where() {
     assert_eq!(
         read("## 2: x\n```\nask 1 10\n```"),
         "line 3: not understood"
+    );
+    assert_eq!(
+        read("## 2: x\n```\nsheet 5a\ntally no steps\n```"),
+        "line 4: not understood"
     );
     assert_eq!(read("## x\n```\nsheet 5a\n```"), "line 3: not understood");
     let store = "## 9: x\n```\nsheet 5a\nstore 12 0 00×11\n```";

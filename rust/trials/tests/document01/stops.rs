@@ -6,13 +6,13 @@ use trials::Answer;
 
 const MOST: u64 = 1_000_000;
 
-/// Number and place of the stop that a sheet brings; store and kept stay as lent.
+/// Number and place of the stop that a sheet brings; store and kept stay as lent, and no row has steps.
 fn refused(sheet: &[u8]) -> (i64, i64) {
     let mut store = [0xEE; 25];
     let given = ask(sheet, &mut store, 9, &[0xFF], u64::MAX);
     assert_eq!(store, [0xEE; 25]);
     let Answer { number, place, .. } = given;
-    assert_eq!(given, Answer::from([number, place, 0, 0, 0, 9]));
+    assert_eq!(given, Answer::new([number, place, 0, 0, 0, 9], [0; 34]));
     (number, place)
 }
 
@@ -237,12 +237,12 @@ fn branches_of_if_can_have_a_function_type() {
     let sheet = [attribute(2, 1), node(0), rule(0, 0, &whole), end()].concat();
     let question = |parameter: &[u8]| of(&node_literal(0), 0, parameter);
     assert_eq!(
-        fresh(&sheet, &question(&TRUE), MOST),
-        Answer::from([0, 0, 2, 9, 5, 1])
+        fresh(&sheet, &question(&TRUE), MOST).fields(),
+        [0, 0, 2, 9, 5, 1]
     );
     assert_eq!(
-        fresh(&sheet, &question(&FALSE), MOST),
-        Answer::from([0, 0, 2, 5, 5, 1])
+        fresh(&sheet, &question(&FALSE), MOST).fields(),
+        [0, 0, 2, 5, 5, 1]
     );
 }
 
@@ -316,7 +316,7 @@ fn a_figure_goes_before_a_rule_and_a_rule_needs_no_node() {
     ]
     .concat();
     let given = fresh(&sheet, &of(&node_literal(0), 0, &UNIT), MOST);
-    assert_eq!(given, Answer::from([0, 0, 2, 7, 1, 1]));
+    assert_eq!(given.fields(), [0, 0, 2, 7, 1, 1]);
     let checked = [attribute(2, 0), rule(15, 0, &UNIT), end()].concat();
     assert_eq!(refused(&checked), (7, 3));
 }
@@ -343,17 +343,13 @@ fn stop_9_the_stores_shape() {
     ];
     for (length, kept) in bad {
         let given = with_store(&vec![0; length], kept, &[], u64::MAX);
-        assert_eq!(
-            given,
-            Answer::from([9, 0, 0, 0, 0, kept as i64]),
-            "{length}"
-        );
+        assert_eq!(given.fields(), [9, 0, 0, 0, 0, kept as i64], "{length}");
     }
     let given = with_store(&[0; 12], u64::MAX, &UNIT, 0);
-    assert_eq!(given, Answer::from([9, 0, 0, 0, 0, -1]));
+    assert_eq!(given.fields(), [9, 0, 0, 0, 0, -1]);
     for capacity in [0, 1, 1_023, 1_024] {
         let given = with_store(&vec![0xFF; 12 * capacity], 0, &UNIT, 0);
-        assert_eq!(given, Answer::from([0, 0, 0, 0, 0, 0]));
+        assert_eq!(given.fields(), [0, 0, 0, 0, 0, 0]);
     }
 }
 
@@ -374,10 +370,10 @@ fn stop_10_the_first_faulty_entry() {
     for bad in &bad {
         let store = [&good, bad, bad, &good].map(|entry| &entry[..]).concat();
         let given = with_store(&store, 4, &[], u64::MAX);
-        assert_eq!(given, Answer::from([10, 1, 0, 0, 0, 4]), "{bad:?}");
+        assert_eq!(given.fields(), [10, 1, 0, 0, 0, 4], "{bad:?}");
         // What is not kept is not looked at.
         let given = with_store(&store, 1, &UNIT, 0);
-        assert_eq!(given, Answer::from([0, 0, 0, 0, 0, 1]));
+        assert_eq!(given.fields(), [0, 0, 0, 0, 0, 1]);
     }
 }
 
@@ -413,7 +409,7 @@ fn stop_10_looks_at_values_of_every_type() {
 fn stop_11_the_budget() {
     for budget in [1_000_001, u64::MAX] {
         let given = with_store(&[0xEE; 24], 0, &[], budget);
-        assert_eq!(given, Answer::from([11, 0, 0, 0, 0, 0]));
+        assert_eq!(given.fields(), [11, 0, 0, 0, 0, 0]);
     }
     assert_eq!(with_store(&[0xEE; 24], 0, &UNIT, MOST).number, 0);
 }
@@ -434,12 +430,12 @@ fn stop_12_the_questions_form() {
     ];
     for question in bad {
         let given = with_store(&[0xEE; 24], 0, question, 9);
-        assert_eq!(given, Answer::from([12, 0, 0, 0, 0, 0]), "{question:?}");
+        assert_eq!(given.fields(), [12, 0, 0, 0, 0, 0], "{question:?}");
     }
     let given = with_store(&[0xEE; 24], 0, &nested_unit(64), MOST);
-    assert_eq!(given, Answer::from([12, 0, 0, 0, 0, 0]));
+    assert_eq!(given.fields(), [12, 0, 0, 0, 0, 0]);
     let given = with_store(&[0xEE; 24], 0, &nested_unit(63), MOST);
-    assert_eq!(given, Answer::from([0, 0, 0, 0, 63, 0]));
+    assert_eq!(given.fields(), [0, 0, 0, 0, 63, 0]);
 }
 
 #[test]
@@ -454,14 +450,14 @@ fn stop_13_the_questions_type() {
     ];
     for question in bad {
         let given = with_store(&[0xEE; 24], 0, &question, 9);
-        assert_eq!(given, Answer::from([13, 0, 0, 0, 0, 0]), "{question:?}");
+        assert_eq!(given.fields(), [13, 0, 0, 0, 0, 0], "{question:?}");
     }
 }
 
 #[test]
 fn stop_14_goes_before_15_and_16() {
     let given = fresh(&sheet_l(), &of(&NULL, OWN, &UNIT), 0);
-    assert_eq!(given, Answer::from([14, 0, 0, 0, 0, 0]));
+    assert_eq!(given.fields(), [14, 0, 0, 0, 0, 0]);
     // 64 forms, then an attribute of null: attribute 0 of p is IF le(p)(1) THEN null's attribute ELSE that of p - 1.
     let at_null = of(&NULL, 0, &PARAMETER);
     let further = of(&THIS, 0, &binary(5, &PARAMETER, &int(1)));
@@ -471,12 +467,12 @@ fn stop_14_goes_before_15_and_16() {
     let question = of(&node_literal(0), 0, &int(64));
     for budget in [steps, steps + 1, MOST] {
         let given = fresh(&sheet, &question, budget);
-        assert_eq!(given, Answer::from([14, 0, 0, 0, steps as i64, 0]));
+        assert_eq!(given.fields(), [14, 0, 0, 0, steps as i64, 0]);
     }
     let given = fresh(&sheet, &question, steps - 1);
-    assert_eq!(given, Answer::from([15, 0, 0, 0, steps as i64 - 1, 0]));
+    assert_eq!(given.fields(), [15, 0, 0, 0, steps as i64 - 1, 0]);
     let given = fresh(&sheet, &of(&node_literal(0), 0, &int(65)), MOST);
-    assert_eq!(given, Answer::from([16, 0, 0, 0, 64 * 6, 0]));
+    assert_eq!(given.fields(), [16, 0, 0, 0, 64 * 6, 0]);
 }
 
 #[test]
@@ -486,7 +482,7 @@ fn stop_15_is_due_at_each_counted_step() {
     let attribute = of(&node_literal(0), OWN, &UNIT);
     for question in [conditional, applied, attribute] {
         let given = fresh(&sheet_l(), &question, 0);
-        assert_eq!(given, Answer::from([15, 0, 0, 0, 0, 0]), "{question:?}");
+        assert_eq!(given.fields(), [15, 0, 0, 0, 0, 0], "{question:?}");
         assert_eq!(fresh(&sheet_l(), &question, 1).number, 0);
     }
 }
@@ -495,9 +491,9 @@ fn stop_15_is_due_at_each_counted_step() {
 fn a_wrong_store_is_believed() {
     let mut store = [entry(1, DIAL, INT_TYPE, 0, -9), vec![0xEE; 12]].concat();
     let given = ask(&sheet_l(), &mut store, 1, &d(), MOST);
-    assert_eq!(given, Answer::from([0, 0, 2, -9, 1, 1]));
+    assert_eq!(given.fields(), [0, 0, 2, -9, 1, 1]);
     let given = ask(&sheet_l(), &mut store, 1, &l10(), MOST);
-    assert_eq!(given, Answer::from([14, 0, 0, 0, 1, 2]));
+    assert_eq!(given.fields(), [14, 0, 0, 0, 1, 2]);
     assert_eq!(
         store,
         [
@@ -512,15 +508,15 @@ fn a_wrong_store_is_believed() {
 fn answers_of_each_base_type() {
     let sheet = sheet_l();
     let given = |question: &[u8]| fresh(&sheet, question, MOST);
-    assert_eq!(given(&UNIT), Answer::from([0, 0, 0, 0, 0, 0]));
-    assert_eq!(given(&TRUE), Answer::from([0, 0, 1, 1, 0, 0]));
-    assert_eq!(given(&FALSE), Answer::from([0, 0, 1, 0, 0, 0]));
+    assert_eq!(given(&UNIT).fields(), [0, 0, 0, 0, 0, 0]);
+    assert_eq!(given(&TRUE).fields(), [0, 0, 1, 1, 0, 0]);
+    assert_eq!(given(&FALSE).fields(), [0, 0, 1, 0, 0, 0]);
     assert_eq!(
-        given(&int(i32::MIN)),
-        Answer::from([0, 0, 2, -2_147_483_648, 0, 0])
+        given(&int(i32::MIN)).fields(),
+        [0, 0, 2, -2_147_483_648, 0, 0]
     );
-    assert_eq!(given(&node_literal(2)), Answer::from([0, 0, 3, 2, 0, 0]));
-    assert_eq!(given(&NULL), Answer::from([0, 0, 3, 65_535, 0, 0]));
+    assert_eq!(given(&node_literal(2)).fields(), [0, 0, 3, 2, 0, 0]);
+    assert_eq!(given(&NULL).fields(), [0, 0, 3, 65_535, 0, 0]);
 }
 
 #[test]
@@ -531,5 +527,5 @@ fn the_deepest_nesting_fits_the_stack() {
     let sheet = [attribute(1, 1), node(0), rule(0, 0, &nots), end()].concat();
     let question = of(&node_literal(0), 0, &TRUE);
     let given = fresh(&sheet, &question, MOST);
-    assert_eq!(given, Answer::from([16, 0, 0, 0, 64, 0]));
+    assert_eq!(given.fields(), [16, 0, 0, 0, 64, 0]);
 }

@@ -2,7 +2,6 @@
 
 use crate::ask;
 use crate::common::*;
-use trials::Answer;
 
 /// Attributes of each type, none with its result's type for parameter. Node 0 has figures, node 1 rules: the Unit, and 1 of the others.
 fn sheet() -> Vec<u8> {
@@ -54,7 +53,7 @@ fn an_entry_carries_the_type_of_its_value() {
             let mut store = [0xEE; 24];
             let given = ask(&sheet(), &mut store, 0, &of_node(number, code), 1);
             let answer = [0, 0, code.into(), value.into(), 1, 1];
-            assert_eq!(given, Answer::from(answer));
+            assert_eq!(given.fields(), answer);
             let kept = entry(number, code, code, 0, value);
             assert_eq!(store[..], [kept, vec![0xEE; 12]].concat());
         }
@@ -82,11 +81,11 @@ fn old_dumps_of_units_pass_and_are_left_as_they_were() {
     let mut store = [dump.clone(), vec![0xEE; 12]].concat();
     let kept_unit = of(&node_literal(1), 0, &TRUE);
     let given = ask(&sheet(), &mut store, 2, &kept_unit, 1);
-    assert_eq!(given, Answer::from([0, 0, 0, 0, 1, 2]));
+    assert_eq!(given.fields(), [0, 0, 0, 0, 1, 2]);
     assert_eq!(store, [dump.clone(), vec![0xEE; 12]].concat());
     // What is kept behind them has its type.
     let given = ask(&sheet(), &mut store, 2, &of_node(0, 2), 1);
-    assert_eq!(given, Answer::from([0, 0, 2, 1, 1, 3]));
+    assert_eq!(given.fields(), [0, 0, 2, 1, 1, 3]);
     assert_eq!(store, [dump, entry(0, 2, INT_TYPE, 0, 1)].concat());
 }
 
