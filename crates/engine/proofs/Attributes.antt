@@ -18,7 +18,8 @@ use Rattle.saiga.specs.declared.Value.{Value}
 use Rattle.saiga.specs.Types.{Attribute, attributeAt}
 use Rattle.saiga.specs.Sheet.{Sheet, nodeCount, attributeCount, Definition, figure, piece-of, ruled, figured, definition, isDefined, accepted}
 use Rattle.saiga.specs.Terms.{Occurrence, val, cond, app, attr, form}
-use Rattle.saiga.specs.Caching.{Entry, Running, kept, write, AttrApp, null-node, spent, depth, tooDeep}
+use Rattle.saiga.specs.Plain.{on-null}
+use Rattle.saiga.specs.Caching.{Entry, Running, kept, write, AttrApp, as-plain, spent, depth, tooDeep}
 use Rattle.saiga.proofs.Depth.{not-deep-kept, not-deep-few, deep-missing}
 use Rattle.saiga.specs.Store.{checkStore}
 use Rattle.saiga.specs.Ask.{reasonNumber}
@@ -539,6 +540,6 @@ module _ {sheet index question : List ℕ} {mem : Memory} {m : Registers} (r : R
       pub attribute-matches : P (attributeDue sheet index budget limit mem m (nodeOf held) a)
       unfolding attributeDue machineOf Machine.attributeDue reasonNumber
       attribute-matches =
-          either P (eqb (nodeOf held) null) (λ null. (null-node, at-frame ∙ rw null, refl))
+          either P (eqb (nodeOf held) null) (λ null. (as-plain on-null, at-frame ∙ rw null, refl))
           (λ no-null. either P (leb budget (m .steps)) (λ used. (spent, at-frame ∙ rw (no-null, le-ltb (m .steps) budget (leb-true _ _ used)), refl))
           (λ unused. takes-kept no-null (leb-false budget (m .steps) unused) _ refl))

@@ -11,14 +11,16 @@ use lib.ListN.{length, drop, length-drop}
 use borrow.Author.Tests.{leb-true, leb-false, ltb-true}
 use Rattle.saiga.specs.Limits.{depthLimit}
 use Rattle.saiga.specs.declared.Value.{Value}
-use Rattle.saiga.specs.Values.{null, truth, nodeOf}
+use Rattle.saiga.specs.declared.Applied.{Applied}
+use Rattle.saiga.specs.declared.Applied.the-variants.{Gives as gives, Overflow as overflows}
+use Rattle.saiga.specs.Values.{null, truth, nodeOf, apply}
 use Rattle.saiga.specs.Expressions.{Expr, Scope, Head, base-literal, function-literal, if-head, application-head, attribute-head, this-head, parameter-head, no-head, headOf, operandWidth, readExpr, no-expression, expression, readWhole}
 use Rattle.saiga.specs.Sheet.{Sheet, ruleScope, Definition, undefined, figure, piece-of, definition}
 use Rattle.saiga.specs.Terms.{Occurrence}
 use Rattle.saiga.specs.Caching.{Entry, isKept, Counted, tooDeep}
 use Rattle.saiga.proofs.Inference.{cond-passes}
 use Rattle.saiga.proofs.Reading.{read-width}
-use Rattle.engine.specs.Machine.{Next, by-move, by-step, Frame, on-if, on-left, on-skip, on-right, on-node, on-parameter, on-form, Mode, evaluating, returning, Machine, openForms, scopeIn, widthOf, passOver, Move, finishes, moves, takes, stops, readHead, within, branch, defined, applied, attributeDue, give, readNext, moveOf, move}
+use Rattle.engine.specs.Machine.{Next, by-move, by-step, Frame, on-if, on-left, on-skip, on-right, on-node, on-parameter, on-form, Mode, evaluating, returning, Machine, openForms, scopeIn, widthOf, passOver, Move, finishes, moves, takes, stops, readHead, within, branch, applicationDue, defined, applied, attributeDue, give, readNext, moveOf, move}
 use Rattle.engine.specs.Good.{Parses, Pieces, Ready, GoodAt, Good, used, usedBy, Waiting, Small}
 use Rattle.engine.specs.Decode.{frameLimit, sheetOf, machineOf}
 use Rattle.engine.specs.Steps.{Memory}
@@ -119,6 +121,12 @@ module _ (s : Sheet) (capacity budget : ℕ) (entries : List Entry) (steps : ℕ
   branch-on v l fs false =
       within-on v l (on-if ∷ fs) _ _ λ b. within-piece (omega (arith, pass-shorter (scopeIn s (openForms fs)) l)) (λ w. w)
 
+  application-on : (v : Value) (l : List ℕ) (f : Value) (fs : List Frame) (a : Applied)
+      → Onward (Keeps s budget (state (returning v) l (on-right f ∷ fs))) (applicationDue s capacity budget (state (returning v) l (on-right f ∷ fs)) fs a)
+  unfolding applicationDue credits credit modeCredit openForms
+  application-on v l f fs (gives w) = within-on v l (on-right f ∷ fs) _ _ λ b. within-piece (omega arith) (λ w. w)
+  application-on v l f fs overflows = tt
+
   -- a value at once, or a piece
   module _ (v n : Value) (a : ℕ) (l : List ℕ) (fs : List Frame) (b : steps < budget) where
     abbrev before : Machine
@@ -154,7 +162,7 @@ module _ (s : Sheet) (capacity budget : ℕ) (entries : List Entry) (steps : ℕ
   give-on v l (on-if ∷ fs) = branch-on v l fs (truth v)
   give-on v l (on-left ∷ fs) = within-piece (omega arith) (λ w. w)
   give-on v l (on-skip ∷ fs) = within-piece (omega (arith, pass-shorter (scopeIn s (openForms fs)) l)) (λ w. w)
-  give-on v l (on-right f ∷ fs) = within-on v l (on-right f ∷ fs) _ _ λ b. within-piece (omega arith) (λ w. w)
+  give-on v l (on-right f ∷ fs) = application-on v l f fs (apply f v)
   give-on v l (on-node a ∷ fs) = within-piece (omega arith) (λ w. w)
   give-on v l (on-parameter n a ∷ fs) =
       cond-onward _ (eqb (nodeOf n) null) _ _ (λ h. tt) λ h.

@@ -26,7 +26,7 @@ use Rattle.stores.proofs.Written.{put-length, put-before, put-there, left-more}
 use Rattle.engine.specs.FrameWords.{kindOf, ifKind, leftKind, skipKind, rightKind, nodeKind, formKind}
 use Rattle.engine.specs.Steps.{Memory, Stepped, goes, waits, finishes, stops, readHead, appended, unlessFound, cacheWrite, closeForm, takeIf, openRule, openFigure, takeKept, attributeDue, give, readNext, stepOf}
 use Rattle.engine.specs.declared.Registers.{Registers}
-use Rattle.engine.proofs.Limited.{until-holds, within-holds}
+use Rattle.engine.proofs.Limited.{until-holds, within-holds, right-holds}
 
 -- ---- Moves
 
@@ -104,7 +104,7 @@ module _ (sheet index : List ℕ) (mem : Memory) (m : Registers) where
       either P (eqb (kindOf w) ifKind) (λ _. within-holds P limit m _ budget (λ _. tt) (λ _ _. tt) (λ _ _. if-moves skip (truth (m .value)))) λ _.
       either P (eqb (kindOf w) leftKind) (λ _. unchanged) λ _.
       either P (eqb (kindOf w) skipKind) (λ _. unchanged) λ _.
-      either P (eqb (kindOf w) rightKind) (λ _. within-holds P limit m _ budget (λ _. tt) (λ _ _. tt) (λ _ _. unchanged)) λ _.
+      either P (eqb (kindOf w) rightKind) (λ _. right-holds P budget limit mem m _ tt tt tt (λ _ _. unchanged)) λ _.
       either P (eqb (kindOf w) nodeKind) (λ _. unchanged) λ _.
       either P (eqb (kindOf w) formKind) (λ _. write-changes (mem .store) (m .kept) _) λ _.
       attribute-moves budget limit _ _

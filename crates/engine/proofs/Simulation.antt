@@ -7,16 +7,19 @@ use mathlib.Core.Path.{_≡_, refl, ap, _∙_}
 use Prim.Native.Nat.{ℕ, suc}
 use lib.Dec.{ltb, eqb}
 use Rattle.saiga.specs.Values.{null, truth, nodeOf, apply}
+use Rattle.saiga.specs.declared.Applied.{Applied}
+use Rattle.saiga.specs.declared.Applied.the-variants.{Gives as gives, Overflow as overflows}
 use Rattle.saiga.specs.declared.Value.{Value}
 use Rattle.saiga.specs.declared.Value.the-variants.{Unit as unit}
 use Rattle.saiga.specs.Expressions.{Expr, Head, base-literal, function-literal, if-head, application-head, attribute-head, this-head, parameter-head, no-head, headOf}
 use Rattle.saiga.specs.Sheet.{Sheet, Definition, undefined, figure, piece-of, definition, wholeExpr, definitionExpr, context}
 use Rattle.saiga.specs.Terms.{Occurrence, val, cond, app, attr, form, put}
-use Rattle.saiga.specs.Caching.{Entry, Running, kept, write, Counted, CondTrue, CondFalse, AppApp, AttrApp, null-node, spent, depth, Due, finished, counts, writes, halts, duePart, count, condRule, keptOr, tooDeep, attrApp, due, State, with-value, by, Ended, dueAt}
+use Rattle.saiga.specs.Plain.{on-null, by-overflow}
+use Rattle.saiga.specs.Caching.{Entry, Running, kept, write, Counted, CondTrue, CondFalse, AppApp, AttrApp, as-plain, spent, depth, Due, finished, counts, writes, halts, duePart, count, condRule, appApp, keptOr, tooDeep, attrApp, due, State, with-value, by, Ended, dueAt}
 use Rattle.saiga.specs.Runs.{Runs, Traces}
 use Rattle.saiga.proofs.RunEnds.{after, traces-after}
 use Rattle.saiga.proofs.Keeping.{write-kept}
-use Rattle.engine.specs.Machine.{Frame, on-if, on-left, on-skip, on-right, on-node, on-parameter, on-form, Mode, evaluating, returning, Machine, openForms, innermost, scopeIn, plug, termOf, stateOf, Move, finishes, moves, takes, stops, readHead, within, branch, defined, applied, attributeDue, give, readNext, moveOf, move, Next, by-move, by-step}
+use Rattle.engine.specs.Machine.{Frame, on-if, on-left, on-skip, on-right, on-node, on-parameter, on-form, Mode, evaluating, returning, Machine, openForms, innermost, scopeIn, plug, termOf, stateOf, Move, finishes, moves, takes, stops, readHead, within, branch, applicationDue, defined, applied, attributeDue, give, readNext, moveOf, move, Next, by-move, by-step}
 use Rattle.engine.specs.Good.{Pieces, Ready, Good}
 use Rattle.engine.proofs.Plugged.{Unfinished, carried, in-whole}
 use Rattle.engine.proofs.Heads.{Inside, head-inside, none-inside, whole-parses}
@@ -109,6 +112,14 @@ module _ (s : Sheet) (capacity budget : ℕ) where
   branch-does v fs l entries steps ready true e = counting fs _ _ _ entries steps CondTrue _ (λ b. rw e) refl (ready .0, (ready .1, ready .2))
   branch-does v fs l entries steps ready false e = counting fs _ _ _ entries steps CondFalse _ (λ b. rw e) refl (ready .1, ready .2)
 
+  application-does : (fs : List Frame) (l : List ℕ) (entries : List Entry) (steps : ℕ) → Ready s fs l → (f v : Value) (a : Applied) → apply f v ≡ a
+      → Does (around fs l (app (val f) (val v)) entries steps)
+      (applicationDue s capacity budget (machine (returning v) l (on-right f ∷ fs) entries steps) fs a)
+  unfolding stateOf termOf applicationDue within due duePart appApp
+  application-does fs l entries steps ready f v (gives w) e = counting fs l _ (val w) entries steps AppApp _ (λ b. rw e) refl ready
+  application-does fs l entries steps ready f v overflows e =
+      (part-due fs l (app (val f) (val v)) entries steps (halts (as-plain by-overflow)) tt (rw e), tt)
+
   module _ (pieces : Pieces s) (m : Machine) (o : Occurrence) (fs : List Frame) (ready : Ready s fs (m .rest)) where
     -- AttrApp has opened the form of `t`, and the machine goes on from there.
     abbrev Opened : Running → Machine → Type 0
@@ -163,8 +174,8 @@ module _ (s : Sheet) (capacity budget : ℕ) where
         by-budget false e no-null = (due-here (halts spent) tt (rw (no-null, e)), tt)
 
         by-null : (c : Bool) → eqb (o .node) null ≡ c
-            → Does st (Bool.cond c (stops null-node) (Bool.cond (ltb (m .steps) budget) (Bool.cond (tooDeep (m .entries) (openForms fs) o) (stops depth) next) (stops spent)))
-        by-null true e = (due-here (halts null-node) tt (rw e), tt)
+            → Does st (Bool.cond c (stops (as-plain on-null)) (Bool.cond (ltb (m .steps) budget) (Bool.cond (tooDeep (m .entries) (openForms fs) o) (stops depth) next) (stops spent)))
+        by-null true e = (due-here (halts (as-plain on-null)) tt (rw e), tt)
         by-null false e = by-budget (ltb (m .steps) budget) refl e
 
   give-does : Pieces s → (v : Value) (fs : List Frame) (l : List ℕ) (entries : List Entry) (steps : ℕ) → Ready s fs l
@@ -175,7 +186,7 @@ module _ (s : Sheet) (capacity budget : ℕ) where
   give-does pieces v (on-left ∷ fs) l entries steps ready = (same refl, (ready .0, ready .1))
   give-does pieces v (on-skip ∷ fs) l entries steps ready = (same refl, ready .1)
   give-does pieces v (on-right f ∷ fs) l entries steps ready =
-      counting fs l (app (val f) (val v)) (val (apply f v)) entries steps AppApp _ (λ b. refl) refl ready
+      application-does fs l entries steps ready f v (apply f v) refl
   give-does pieces v (on-node a ∷ fs) l entries steps ready = (same refl, (ready .0, ready .1))
   give-does pieces v (on-parameter n a ∷ fs) l entries steps ready =
       attribute-does pieces (machine (returning v) l (on-parameter n a ∷ fs) entries steps)

@@ -10,7 +10,9 @@ use native.Mathlib.Omega.{arith}
 use lib.Dec.{ltb, eqb}
 use lib.ListN.{getD}
 use borrow.Author.Tests.{ne-eqb}
-use Rattle.saiga.specs.Values.{null, truth}
+use Rattle.saiga.specs.Values.{null, truth, apply}
+use Rattle.saiga.specs.declared.Applied.{Applied}
+use Rattle.saiga.specs.declared.Applied.the-variants.{Gives as gives, Overflow as overflows}
 use Rattle.saiga.specs.declared.Value.{Value}
 use Rattle.saiga.specs.Sheet.{Sheet}
 use Rattle.saiga.specs.Terms.{Occurrence}
@@ -18,7 +20,7 @@ use Rattle.saiga.specs.Caching.{tooDeep}
 use Rattle.saiga.proofs.Preservation.{either}
 use Rattle.saiga.proofs.Tally.{rowOf}
 use Rattle.engine.specs.FrameWords.{kindOf, formKind}
-use Rattle.engine.specs.Machine.{Frame, on-if, on-left, on-skip, on-right, on-node, on-parameter, on-form, Machine, openForms, Move, finishes, moves, takes, stops, within, branch, attributeDue, give, moveOf, move}
+use Rattle.engine.specs.Machine.{Frame, on-if, on-left, on-skip, on-right, on-node, on-parameter, on-form, Machine, openForms, Move, finishes, moves, takes, stops, within, branch, applicationDue, attributeDue, give, moveOf, move}
 use Rattle.engine.specs.Decode.{sheetOf, framesIn, modeOf, machineOf}
 use Rattle.engine.specs.Steps.{Memory}
 use Rattle.engine.specs.Represents.{machineIn}
@@ -38,6 +40,11 @@ module _ (s : Sheet) (capacity budget : ℕ) (m : Machine) where
   branch-row true fs = either (RowFits _) (ltb (m .steps) budget) {y = stops _} (λ _. refl) (λ _. tt)
   branch-row false fs = either (RowFits _) (ltb (m .steps) budget) {y = stops _} (λ _. refl) (λ _. tt)
 
+  application-row : (f : Value) (fs : List Frame) (a : Applied) → RowFits (frameRow (on-right f)) (applicationDue s capacity budget m fs a)
+  unfolding applicationDue within frameRow rowOf
+  application-row f fs (gives v) = either (RowFits _) (ltb (m .steps) budget) {y = stops _} (λ _. refl) (λ _. tt)
+  application-row f fs overflows = tt
+
   attribute-row : (o : Occurrence) (v : Value) (fs : List Frame) → RowFits (frameRow (on-parameter v (o .attribute))) (attributeDue s capacity budget m o fs)
   unfolding attributeDue frameRow rowOf
   attribute-row o v fs =
@@ -47,11 +54,11 @@ module _ (s : Sheet) (capacity budget : ℕ) (m : Machine) where
       (λ _. tt)
 
   frame-row : (v : Value) (f : Frame) (fs : List Frame) → RowFits (frameRow f) (give s capacity budget m v (f ∷ fs))
-  unfolding give within frameRow rowOf
+  unfolding give frameRow rowOf
   frame-row v on-if fs = branch-row (truth v) fs
   frame-row v on-left fs = refl
   frame-row v on-skip fs = refl
-  frame-row v (on-right f) fs = either (RowFits _) (ltb (m .steps) budget) {y = stops _} (λ _. refl) (λ _. tt)
+  frame-row v (on-right f) fs = application-row f fs (apply f v)
   frame-row v (on-node a) fs = refl
   frame-row v (on-parameter n a) fs = attribute-row _ n fs
   frame-row v (on-form o outer) fs = refl

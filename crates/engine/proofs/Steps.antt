@@ -10,12 +10,15 @@ use lib.Dec.{eqb, lit<}
 use lib.ListN.{length, drop, getD, set, length-set}
 use borrow.Author.Tests.{leb-true, ltb-true, eqb-true, eqb-false, lt-ltb, le-ltb}
 use Rattle.saiga.specs.Values.{truth, nodeOf, apply}
+use Rattle.saiga.specs.declared.Applied.{Applied}
+use Rattle.saiga.specs.declared.Applied.the-variants.{Gives, Overflow}
 use Rattle.saiga.specs.declared.Value.{Value}
 use Rattle.saiga.specs.declared.Value.the-variants.{Node as node}
 use Rattle.saiga.specs.Expressions.{Expr, Scope, Head, base-literal, function-literal, if-head, application-head, attribute-head, this-head, parameter-head, no-head, headOf, operandWidth, Reading, reads, whenever, readOperand, readAfter, readExpr}
 use Rattle.saiga.specs.Sheet.{Sheet, ruleScope, questionScope, attributeCount}
 use Rattle.saiga.specs.Terms.{Occurrence}
-use Rattle.saiga.specs.Caching.{Counted, CondTrue, CondFalse, AppApp, spent}
+use Rattle.saiga.specs.Plain.{by-overflow}
+use Rattle.saiga.specs.Caching.{Counted, CondTrue, CondFalse, AppApp, as-plain, spent}
 use Rattle.saiga.specs.Store.{checkStore}
 use Rattle.saiga.specs.Ask.{reasonNumber}
 use Rattle.saiga.proofs.Preservation.{either}
@@ -23,10 +26,10 @@ use Rattle.saiga.proofs.Reading.{read-width}
 use Rattle.expressions.specs.Noted.{WidthOf}
 use Rattle.engine.specs.RunningPiece.{restOf}
 use Rattle.values.specs.Packed.{valueIn}
-use Rattle.engine.specs.Machine.{Frame, on-if, on-left, on-skip, on-right, on-node, Mode, evaluating, returning, Machine, openForms, innermost, scopeIn, widthOf, passOver, Move, moves, takes, readHead, within, branch, give, readNext, moveOf, move}
+use Rattle.engine.specs.Machine.{Frame, on-if, on-left, on-skip, on-right, on-node, Mode, evaluating, returning, Machine, openForms, innermost, scopeIn, widthOf, passOver, Move, moves, takes, readHead, within, branch, applicationDue, give, readNext, moveOf, move}
 use Rattle.engine.specs.FrameWords.{kindOf, ifKind, leftKind, skipKind, rightKind, nodeKind, parameterKind, formKind, heldAttribute, heldNode}
 use Rattle.engine.specs.Decode.{sheetOf, entriesOf, formOccurrence, framesIn, modeOf, machineOf}
-use Rattle.engine.specs.Steps.{Memory, Stepped, goes, returned, pushed, answered, writeWord, turned, takeIf, closeForm, attributeDue, stepOf}
+use Rattle.engine.specs.Steps.{Memory, Stepped, goes, returned, pushed, writeWord, turned, takeIf, takeRight, closeForm, attributeDue, stepOf}
 use Rattle.engine.specs.Steps as Steps
 use Rattle.engine.specs.declared.Registers.{Registers}
 use Rattle.engine.specs.Good.{Parses, Ready, GoodAt}
@@ -284,7 +287,7 @@ module _ (sheet question : List ℕ) (budget limit : ℕ) (mem : Memory) (m : Re
 
           give-matches : (packed : ℕ) → PacksIn mem m packed → AttributeMatches index → CloseMatches
               → Matched (Steps.give sheet index budget limit skip packed mem m word)
-          unfolding Steps.give give modeOf openForms machineOf
+          unfolding Steps.give give modeOf openForms machineOf applicationDue takeRight reasonNumber
           give-matches packed packs attribute close =
               either Matched (eqb (kindOf word) ifKind) (λ t. if-matches (top (if-kind word (eqb-true _ _ t))) (truth (m .value)) refl) λ no-if.
               either Matched (eqb (kindOf word) leftKind) (λ t. left (packs gives some .0 (eqb-true _ _ t)) (top (left-kind word (eqb-true _ _ t)))) λ no-left.
@@ -312,10 +315,13 @@ module _ (sheet question : List ℕ) (budget limit : ℕ) (mem : Memory) (m : Re
                   let (inside, rest) = passed (ready e .0) in
                   pops true (m .at + skip) (m .steps) (m .value) inside rest (rw e) (by-move (is-given e))
 
-              right : {f : Value} → frames ≡ on-right f ∷ below
-                  → Matched (Steps.within budget limit m (goes (answered m (m .kept) (apply f (m .value))) mem))
-              right e =
-                  counts AppApp _ (is-given e) λ on. pops true (m .at) (m .steps + 1) _ (r .holds .from) refl (rw e) (rw add-one (by-step AppApp on))
+              right : {f : Value} → frames ≡ on-right f ∷ below → Matched (takeRight budget limit mem m (apply f (m .value)))
+              right {f} e = go (apply f (m .value)) (is-given e)
+                where
+                  go : (a : Applied) → next ≡ applicationDue s capacity budget M below a → Matched (takeRight budget limit mem m a)
+                  go (Gives v) is =
+                      counts AppApp _ is λ on. pops true (m .at) (m .steps + 1) v (r .holds .from) refl (rw e) (rw add-one (by-step AppApp on))
+                  go Overflow is = (as-plain by-overflow, is, refl)
 
               node-given : Packs (m .value) packed → frames ≡ on-node (heldAttribute word) ∷ below
                   → Matched (goes (turned m) (writeWord mem (m .frames - 1) (5 + 8 * (heldAttribute word + 32 * packed))))

@@ -20,8 +20,7 @@ use Rattle.saiga.specs.Tally.{stepsIn, tally}
 use Rattle.saiga.specs.Store.{checkStore}
 use Rattle.saiga.specs.Ask.{checkQuestion, traceQuestion}
 use Rattle.saiga.proofs.Calls.{question-traces}
-use Rattle.saiga.proofs.Tally.{rowOf, HasRow, row-inside, one-more, no-more, is-tally}
-use Rattle.saiga.proofs.Tallies.{has-row}
+use Rattle.saiga.proofs.Tally.{rowOf, HasRow, among-more, row-inside, one-more, no-more, is-tally}
 use Rattle.expressions.specs.Noted.{WidthOf}
 use Rattle.engine.specs.RunningPiece.{restOf}
 use Rattle.engine.specs.Machine.{Machine, Move, takes, move, Next, by-move, by-step, stateOf}
@@ -101,7 +100,7 @@ module _ {sheet index question : List ℕ} {budget : ℕ} {first : List ℕ} {le
   rule-row : {c : Counted} {M′ : Machine} → move s capacity budget M ≡ takes c M′ → HasRow c
   rule-row {c} e =
       let (u, d, _) = subst (Simulates s capacity budget (stateOf s M)) e (simulates s capacity budget (rules inv) M (r .good)) in
-      has-row (s .attributes) (r .index-of .described .attributes-bound) c
+      among-more (r .index-of .described .attributes-bound) c
       (is-due s sheet (r .accepts) capacity budget (base (r .type)) (stateOf s M) (typed inv) d .0)
 
   module _ (limit skip packed : ℕ) (width : WidthOf (restOf sheet question (m .forms) (m .at) (m .end)) skip) (packs : PacksIn mem m packed) where

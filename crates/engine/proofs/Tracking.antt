@@ -38,7 +38,7 @@ use Rattle.engine.proofs.Attributes.{setFour, four-older, four-third, f
 use Rattle.engine.proofs.Decoding.{rest-on}
 use Rattle.engine.proofs.Kept.{by-key}
 use Rattle.engine.proofs.ReadyForCode.{if-starts, skip-starts}
-use Rattle.engine.proofs.Limited.{until-holds, within-holds}
+use Rattle.engine.proofs.Limited.{until-holds, within-holds, right-holds}
 
 -- ---- One piece
 
@@ -252,7 +252,7 @@ module _ {sheet index question notes : List ℕ} {mem : Memory} {m : Registers} 
         (λ _ _. if-tracks skip (if-starts r gives framed (eqb-true _ _ e)) width (truth (m .value)))) λ no-if.
         either P (eqb (kindOf word) leftKind) (λ _. goes-on-at _ _ _ _ _ _ _ _ (t .here)) λ no-left.
         either P (eqb (kindOf word) skipKind) (λ e. goes-on-at _ _ _ _ _ _ _ _ (over skip (skip-starts r gives framed (eqb-true _ _ e)) width)) λ no-skip.
-        either P (eqb (kindOf word) rightKind) (λ _. within-holds P limit m _ budget (λ _. tt) (λ _ _. tt) (λ _ _. goes-on-at _ _ _ _ _ _ _ _ (t .here))) λ no-right.
+        either P (eqb (kindOf word) rightKind) (λ _. right-holds P budget limit mem m _ tt tt tt (λ _ _. goes-on-at _ _ _ _ _ _ _ _ (t .here))) λ no-right.
         either P (eqb (kindOf word) nodeKind) (λ _. goes-on-at _ _ _ _ _ _ _ _ (t .here)) λ no-node.
         either P (eqb (kindOf word) formKind) (λ e. close-tracks (eqb-true _ _ e)) λ no-form.
         attribute-tracks

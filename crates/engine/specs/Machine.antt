@@ -9,12 +9,15 @@ use Prim.Native.Nat.{ℕ, suc}
 use lib.Dec.{ltb, eqb}
 use lib.ListN.{length, take, drop, getD}
 use Rattle.saiga.specs.Values.{null, functionOf, ofBytes, ofWord, truth, nodeOf, apply}
+use Rattle.saiga.specs.declared.Applied.{Applied}
+use Rattle.saiga.specs.declared.Applied.the-variants.{Gives as gives, Overflow as overflows}
 use Rattle.saiga.specs.declared.Value.{Value}
 use Rattle.saiga.specs.declared.Value.the-variants.{Unit as unit, Node as node, Function as function}
 use Rattle.saiga.specs.Expressions.{Expr, literal, Scope, Head, base-literal, function-literal, if-head, application-head, attribute-head, this-head, parameter-head, no-head, headOf, operandWidth, Reading, malformed, reads, readExpr}
 use Rattle.saiga.specs.Sheet.{Sheet, ruleScope, questionScope, Definition, undefined, figure, piece-of, definition}
 use Rattle.saiga.specs.Terms.{Occurrence, val, cond, app, attr, form, put}
-use Rattle.saiga.specs.Caching.{Entry, kept, write, Running, Counted, CondTrue, CondFalse, AppApp, AttrApp, Reason, null-node, spent, depth, tooDeep, State}
+use Rattle.saiga.specs.Plain.{on-null, by-overflow}
+use Rattle.saiga.specs.Caching.{Entry, kept, write, Running, Counted, CondTrue, CondFalse, AppApp, AttrApp, Reason, as-plain, spent, depth, tooDeep, State}
 
 -- ---- States
 
@@ -137,6 +140,11 @@ module _ (s : Sheet) (capacity budget : ℕ) (m : Machine) where
   branch true fs = within CondTrue (counted evaluating (m .rest) (on-skip ∷ fs) (m .entries))
   branch false fs = within CondFalse (counted evaluating (passOver (scopeIn s (openForms fs)) (m .rest)) fs (m .entries))
 
+  -- AppApp: with what the function gives, or none
+  unfoldable pub applicationDue : List Frame → Applied → Move
+  applicationDue fs (gives v) = within AppApp (counted (returning v) (m .rest) fs (m .entries))
+  applicationDue fs overflows = stops (as-plain by-overflow)
+
   -- AttrApp. A kept value, and a figure, are there at once: the form around them is written and gone, and there is no frame for it. So no more than
   -- 64 forms have a frame.
   unfoldable pub defined : Occurrence → List Frame → Definition → Machine
@@ -150,7 +158,7 @@ module _ (s : Sheet) (capacity budget : ℕ) (m : Machine) where
 
   unfoldable pub attributeDue : Occurrence → List Frame → Move
   attributeDue o fs =
-      Bool.cond (eqb (o .node) null) (stops null-node)
+      Bool.cond (eqb (o .node) null) (stops (as-plain on-null))
       (Bool.cond (ltb (m .steps) budget)
       (Bool.cond (tooDeep (m .entries) (openForms fs) o) (stops depth)
       (takes (AttrApp (o .attribute)) (applied o fs (kept (m .entries) o))))
@@ -162,7 +170,7 @@ module _ (s : Sheet) (capacity budget : ℕ) (m : Machine) where
   give v (on-if ∷ fs) = branch (truth v) fs
   give v (on-left ∷ fs) = moves (goes evaluating (m .rest) (on-right v ∷ fs))
   give v (on-skip ∷ fs) = moves (goes (returning v) (passOver (scopeIn s (openForms fs)) (m .rest)) fs)
-  give v (on-right f ∷ fs) = within AppApp (counted (returning (apply f v)) (m .rest) fs (m .entries))
+  give v (on-right f ∷ fs) = applicationDue fs (apply f v)
   give v (on-node a ∷ fs) = moves (goes evaluating (m .rest) (on-parameter v a ∷ fs))
   give v (on-parameter n a ∷ fs) = attributeDue record { node = nodeOf n; attribute = a; parameter = v } fs
   give v (on-form o outer ∷ fs) =

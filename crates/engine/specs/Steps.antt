@@ -7,6 +7,8 @@ use lib.Dec.{leb, eqb}
 use lib.ListN.{length, take, drop, getD, set}
 use Rattle.saiga.specs.Limits.{entryWidth, depthLimit}
 use Rattle.saiga.specs.Values.{null, functionOf, baseOf, ofBytes, ofWord, toWord, truth, nodeOf, apply}
+use Rattle.saiga.specs.declared.Applied.{Applied}
+use Rattle.saiga.specs.declared.Applied.the-variants.{Gives as gives, Overflow as overflows}
 use Rattle.saiga.specs.declared.Value.{Value}
 use Rattle.saiga.specs.declared.Value.the-variants.{Node as node, Function as function}
 use Rattle.saiga.specs.Expressions.{Head, base-literal, function-literal, if-head, application-head, attribute-head, this-head, parameter-head, no-head, headOf, operandWidth}
@@ -124,6 +126,11 @@ untilLimit limit m next = cond (leb limit (m .steps)) waits next
 unfoldable pub within : ℕ → ℕ → Registers → Stepped → Stepped
 within budget limit m next = cond (leb budget (m .steps)) (stops 15) (untilLimit limit m next)
 
+-- AppApp, with what the function gives: 17, then the limits. Overflow that is due at the limit stops the run there.
+unfoldable pub takeRight : ℕ → ℕ → Memory → Registers → Applied → Stepped
+takeRight budget limit mem m (gives v) = within budget limit m (goes (answered m (m .kept) v) mem)
+takeRight budget limit mem m overflows = stops 17
+
 module _ (sheet index : List ℕ) where
   -- AttrApp of an occurrence that is not kept: its figure, or its rule inside a form
   unfoldable pub openRule : Memory → Registers → ℕ → ℕ → ℕ → Stepped
@@ -175,7 +182,7 @@ module _ (sheet index : List ℕ) where
       (cond (eqb (kindOf w) skipKind)
       (goes record { returning = true; at = m .at + skip; end = m .end; frames = m .frames - 1; forms = m .forms; kept = m .kept; steps = m .steps; value = m .value } mem)
       (cond (eqb (kindOf w) rightKind)
-      (within budget limit m (goes (answered m (m .kept) (apply (valueIn (heldFunction w)) (m .value))) mem))
+      (takeRight budget limit mem m (apply (valueIn (heldFunction w)) (m .value)))
       (cond (eqb (kindOf w) nodeKind) (goes (turned m) (writeWord mem (m .frames - 1) (parameterWord (heldAttribute w) packed)))
       (cond (eqb (kindOf w) formKind) (closeForm mem m)
       (attributeDue budget limit mem m (nodeOf (valueIn (heldNode w))) (heldAttribute w)))))))

@@ -5,6 +5,7 @@ use frames::ATTRIBUTES;
 use frames::ON_IF;
 use frames::ON_LEFT;
 use frames::ON_SKIP;
+use saiga::Applied;
 use saiga::Value;
 use saiga::limits::DEPTH_LIMIT;
 use saiga::limits::EXPRESSION_LIMIT;
@@ -13,7 +14,7 @@ ghost use mathlib.Core.Path.{_≡_};
 ghost use Prim.Native.Nat.{ℕ, _+_, _*_, _/_, _%_, _^_, _≤_, _<_};
 ghost use lib.ListN.{length};
 ghost use Rattle.saiga.specs.Limits.{attributeLimit};
-ghost use Rattle.saiga.specs.Values.{truth, apply as applied};
+ghost use Rattle.saiga.specs.Values.{truth, apply};
 ghost use Rattle.values.specs.Packed.{valueIn};
 ghost use Rattle.engine.specs.FrameWords.{rightWord, heldFunction, parameterWord};
 ghost use Rattle.expressions.specs.Noted.{WidthOf};
@@ -284,14 +285,8 @@ pub fn take_if(notes: &[u8], e: &[u8], memory: &mut [u64], m: Registers) -> Regi
 }
 
 // AppApp: the function that the frame's word holds is applied.
-pub fn take_right(m: Registers, w: u64) -> Registers
-    requires { ⌜ (1 ≤ m .frames) × (m .steps + 1 < 2 ^ 64) ⌝ }
-    ensures { λ r. ⌜ r ≡ answeredBy m (m .kept) (applied (valueIn (heldFunction w)) (m .value)) ⌝ }
+pub fn applied(w: u64, x: Value) -> Applied
+    ensures { λ r. ⌜ r ≡ apply (valueIn (heldFunction w)) x ⌝ }
 {
-    let value = m.value;
-    answered(
-        m,
-        m.kept,
-        values::apply(values::packed::unpack(frames::function(w)), value),
-    )
+    values::apply(values::packed::unpack(frames::function(w)), x)
 }

@@ -12,7 +12,7 @@ use Rattle.saiga.specs.Expressions.{Head, base-literal, function-literal, if-he
 use Rattle.engine.specs.declared.Registers.{Registers}
 use Rattle.engine.specs.Steps.{Memory, Stepped, goes, waits, finishes, stops, readHead, takeIf, within, closeForm, openRule, openFigure, takeKept, attributeDue, give, readNext, stepOf}
 use Rattle.saiga.proofs.Preservation.{either}
-use Rattle.engine.proofs.Limited.{until-holds, within-holds}
+use Rattle.engine.proofs.Limited.{until-holds, within-holds, right-holds}
 
 module _ (sheet index : List ℕ) (limit : ℕ) (mem : Memory) (m : Registers) where
   -- the count stays within the limit
@@ -67,7 +67,7 @@ module _ (sheet index : List ℕ) (limit : ℕ) (mem : Memory) (m : Registers) w
       either Counts (eqb (w % 8) 0) (λ _. within-holds Counts limit m _ budget (λ _. tt) (λ _ _. tt) (λ _ before. if-counts before skip (truth (m .value)))) λ _.
       either Counts (eqb (w % 8) 1) (λ _ h. h) λ _.
       either Counts (eqb (w % 8) 2) (λ _ h. h) λ _.
-      either Counts (eqb (w % 8) 3) (λ _. within-holds Counts limit m _ budget (λ _. tt) (λ _ _. tt) (λ _ before h. omega arith)) λ _.
+      either Counts (eqb (w % 8) 3) (λ _. right-holds Counts budget limit mem m _ tt tt tt (λ _ before h. omega arith)) λ _.
       either Counts (eqb (w % 8) 4) (λ _ h. h) λ _.
       either Counts (eqb (w % 8) 6) (λ _ h. h) λ _.
       attribute-counts budget _ _
@@ -79,6 +79,6 @@ module _ (sheet index : List ℕ) (limit : ℕ) (mem : Memory) (m : Registers) w
       (λ _. either Counts (eqb (m .frames) 0) {x = finishes} (λ _. tt) (λ _. give-counts budget skip packed _))
       (λ _. reading-counts _)
 
-  pub counts-on : (question : List ℕ) (budget skip packed : ℕ) {m′ : Registers} {mem′ : Memory}
+  pub stays-within-limit : (question : List ℕ) (budget skip packed : ℕ) {m′ : Registers} {mem′ : Memory}
       → stepOf sheet index question budget limit skip packed mem m ≡ goes m′ mem′ → m .steps ≤ limit → m′ .steps ≤ limit
-  counts-on question budget skip packed e = rw e at (move-counts question budget skip packed)
+  stays-within-limit question budget skip packed e = rw e at (move-counts question budget skip packed)

@@ -13,7 +13,7 @@ use Rattle.stores.specs.Keys.{Linked}
 use Rattle.engine.specs.declared.Registers.{Registers}
 use Rattle.engine.specs.FrameWords.{kindOf, ifKind, leftKind, skipKind, rightKind, nodeKind, formKind, rightWord, heldFunction, heldAttribute, parameterWord, heldNode}
 use Rattle.engine.specs.Decode.{wordsIn}
-use Rattle.engine.specs.Steps.{Memory, Stepped, goes, writeWord, turned, answered, takeIf, within, closeForm, attributeDue, give}
+use Rattle.engine.specs.Steps.{Memory, Stepped, goes, writeWord, turned, takeIf, takeRight, within, closeForm, attributeDue, give}
 use Rattle.engine.specs.Represents.{PacksIn}
 use Rattle.engine.specs.Ready.{memoryOf, Rewrites, Passes, skipped}
 use Rattle.expressions.proofs.Widths.{width-of}
@@ -22,7 +22,7 @@ use Rattle.engine.specs.declared.Step.{Step}
 use Rattle.engine.specs.declared.Step.the-variants.{Goes, Waits, Finishes, Stops}
 use Rattle.engine.specs.CodeSteps.{steppedOf, keptAfter, keptIn, Still}
 use Rattle.runs.specs.Moves.{GivesTo}
-use Rattle.runs.proofs.Limits.{within-keeps, kept-by}
+use Rattle.runs.proofs.Limits.{within-keeps, right-keeps, kept-by}
 use Rattle.runs.proofs.ReadyForAttributes.{Given, OtherKind, top-inside, late-kind}
 
 -- one kind is no other
@@ -88,7 +88,7 @@ module _ (sheet index notes question store links run : List ℕ) (budget limit :
       }
 
   pub gives-right : (r : Step) → k ≡ rightKind
-      → ((mem : Memory) → steppedOf r mem ≡ within budget limit m (goes (answered m (m .kept) (apply (valueIn (heldFunction w)) (m .value))) mem))
+      → ((mem : Memory) → steppedOf r mem ≡ takeRight budget limit mem m (apply (valueIn (heldFunction w)) (m .value)))
       → Gives mem links r
   unfolding give
   gives-right r key steps =
@@ -101,7 +101,7 @@ module _ (sheet index notes question store links run : List ℕ) (budget limit :
         packs = unpacked (no-kind 1 kind (λ e. omega arith)) (no-kind 4 kind (λ e. omega arith));
         moved = rw kind (steps mem);
         still = still-same r mem;
-        linked = unwritten r mem (steps mem) (within-keeps budget limit m _ refl);
+        linked = unwritten r mem (steps mem) (right-keeps budget limit mem m _);
       }
 
   -- the innermost frame is made one that holds the value

@@ -20,7 +20,7 @@ use Rattle.engine.specs.declared.Step.{Step}
 use Rattle.engine.specs.declared.Step.the-variants.{Goes, Waits, Finishes, Stops}
 use Rattle.engine.specs.CodeSteps.{steppedOf, keptAfter}
 use Rattle.runs.specs.declared.RunEnd.the-variants as End
-use Rattle.runs.proofs.Counting.{counts-on}
+use Rattle.runs.proofs.Counting.{stays-within-limit}
 use Rattle.runs.specs.Moves.{StepsTo, Running, RunsTo, TalliesTo}
 
 module _ (sheet index notes question : List ℕ) (budget limit : ℕ) where
@@ -118,7 +118,7 @@ module _ (sheet index notes question : List ℕ) (budget limit : ℕ) where
                 short = round .running .short;
               };
               on = λ lent kept whole i. next lent kept whole (round .on lent kept whole i);
-              counted = λ h. counts-on sheet index limit mem m question budget (steps .skip) (steps .packed) goes-to (round .counted h);
+              counted = λ h. stays-within-limit sheet index limit mem m question budget (steps .skip) (steps .packed) goes-to (round .counted h);
               rows-within =
                   rw rows-are (rows-on (round .running .invariant) limit (steps .skip) (steps .packed) (steps .width) (steps .packs) goes-to rows (round .rows-within));
               tallied = λ all t.

@@ -8,6 +8,7 @@ use engine::frames::ON_LEFT;
 use engine::frames::ON_NODE;
 use engine::frames::ON_RIGHT;
 use engine::frames::ON_SKIP;
+use saiga::Applied;
 use saiga::limits::APPLICATIONS_ROW;
 use saiga::limits::CONDITIONS_ROW;
 ghost use mathlib.Core.Bool.{true};
@@ -17,11 +18,11 @@ ghost use mathlib.Core.Path.{_≡_};
 ghost use Prim.Native.Nat.{ℕ, _+_, _-_, _^_, _≤_, _<_};
 ghost use lib.ListN.{length, getD};
 ghost use Rattle.saiga.specs.Limits.{budgetLimit};
-ghost use Rattle.saiga.specs.Values.{truth, apply as applied};
+ghost use Rattle.saiga.specs.Values.{truth, apply};
 ghost use Rattle.saiga.specs.Caching.{Counted, Ended};
 ghost use Rattle.values.specs.Packed.{valueIn};
 ghost use Rattle.stores.specs.Keys.{Linked};
-ghost use Rattle.engine.specs.Steps.{Memory, goes, answered as answeredBy, takeIf, within};
+ghost use Rattle.engine.specs.Steps.{Memory, takeIf, takeRight, within};
 ghost use Rattle.engine.specs.Ready.{memoryOf, FrameReady, PassReady, Passes};
 ghost use Rattle.engine.specs.Loop.{Invariant};
 ghost use Rattle.engine.specs.CodeSteps.{steppedOf, Still};
@@ -54,19 +55,24 @@ fn give_if(notes: &[u8], e: &[u8], memory: &mut [u64], limits: Limits, m: Regist
     Step::Goes(engine::take_if(notes, e, memory, m))
 }
 
-// An application has its argument: the limits of a counted step, then the step, with the function that the frame's word holds.
+// An application has its argument: what the function that the frame's word holds gives of it, or overflow; then the limits of a counted step, and
+// the step.
 fn give_right(limits: Limits, m: Registers, w: u64) -> Step
     requires { ⌜ 1 ≤ m .frames ⌝ }
     ensures { λ r. ⌜ ((mem : Memory) → steppedOf r mem
-        ≡ within (limits .budget) (limits .pause) m (goes (answeredBy m (m .kept) (applied (valueIn (heldFunction w)) (m .value))) mem)) ⌝ }
+        ≡ takeRight (limits .budget) (limits .pause) mem m (apply (valueIn (heldFunction w)) (m .value))) ⌝ }
 {
+    let x = m.value;
+    let Applied::Gives(v) = engine::applied(w, x) else {
+        return Step::Stops(17);
+    };
     if limits.budget <= m.steps {
         return Step::Stops(15);
     }
     if limits.pause <= m.steps {
         return Step::Waits;
     }
-    Step::Goes(engine::take_right(m, w))
+    Step::Goes(engine::answered(m, m.kept, v))
 }
 
 // A counted step is in its row of the tally, if it was taken: one that waits, or has a stop in its place, is in none.

@@ -11,11 +11,11 @@ use native.Mathlib.Omega.{arith}
 use native.Mathlib.Numerals.{add-one}
 use borrow.Author.Tests.{ltb-true, lt-ltb}
 use lib.Dec.{eqb, ltb}
-use Rattle.saiga.specs.Values.{Value, null}
+use Rattle.saiga.specs.Values.{Value, null, Applied, gives, overflows, apply}
 use Rattle.saiga.specs.Expressions.{Expr}
 use Rattle.saiga.specs.Terms.{Occurrence, val, cond, app, attr, form}
-use Rattle.saiga.specs.Plain.{Plain, on-null, plainStep, plainAt}
-use Rattle.saiga.specs.Caching.{Entry, Running, Counted, Due, finished, counts, writes, halts, Reason, null-node, spent, depth, duePart, count, attrApp, due, State, Ending, with-value, by, Ended, dueAt}
+use Rattle.saiga.specs.Plain.{Plain, on-null, ends-without, plainStep, plainAt}
+use Rattle.saiga.specs.Caching.{Entry, Running, Counted, Due, finished, counts, writes, halts, Reason, as-plain, spent, depth, duePart, count, appApp, attrApp, due, State, Ending, with-value, by, Ended, dueAt}
 use Rattle.saiga.specs.Runs.{Runs, ends-value, ends-by, goes-counted, goes-writing, Traces, none-value, none-by, one-counted, past-writing}
 use Rattle.saiga.proofs.Erasure.{erase, Right, Faithful, Seen, comes-on, step-first}
 use Rattle.saiga.proofs.RunEnds.{spent-used, after}
@@ -27,8 +27,8 @@ module _ (context : ℕ → ℕ → Expr) where
   -- how plain Saiga, asked q, stands to a run that ended so after so many steps
   abbrev pub Follows : ℕ → Plain → ℕ → Ending → Type 0
   Follows budget q steps (with-value v) = (m : ℕ) × (plainAt context m q ≡ some (val v)) × (steps ≤ m)
-  Follows budget q steps (by null-node) =
-      (m : ℕ) × (t : Plain) × (plainAt context m q ≡ some t) × (plainStep context t ≡ on-null) × (steps ≤ m)
+  Follows budget q steps (by (as-plain why)) =
+      (m : ℕ) × (t : Plain) × (plainAt context m q ≡ some t) × (plainStep context t ≡ ends-without why) × (steps ≤ m)
   Follows budget q steps (by spent) =
       (m : ℕ) × (t : Plain) × (plainAt context (suc m) q ≡ some t) × (budget ≤ steps) × (steps ≤ m)
   Follows budget q steps (by depth) = Unit {0}
@@ -37,7 +37,7 @@ module _ (context : ℕ → ℕ → Expr) where
     follows-halt : (st : State) (r : Reason) → dueAt context capacity budget st ≡ halts r → Seen context (st .term) (halts r)
         → (q : Plain) (n : ℕ) → plainAt context n q ≡ some (erase (st .term)) → st .steps ≤ n → Follows budget q (st .steps) (by r)
     unfolding plainAt
-    follows-halt st null-node e s q n h l = (n, erase (st .term), h, s, l)
+    follows-halt st (as-plain why) e s q n h l = (n, erase (st .term), h, s, l)
     follows-halt st spent e s q n h l = (n, s .0, one-more, spent-used context capacity budget st e, l)
       where
         one-more : plainAt context (suc n) q ≡ some (s .0)
@@ -76,9 +76,14 @@ module _ (context : ℕ → ℕ → Expr) (s : List Entry) where
   unfolding attrApp
   agree-attr os o = go (eqb (o .node) null) _
     where
-      go : (z : Bool) (d : Due) → Agree (Bool.cond z (halts null-node) (halts spent)) (Bool.cond z (halts null-node) d)
+      go : (z : Bool) (d : Due) → Agree (Bool.cond z (halts (as-plain on-null)) (halts spent)) (Bool.cond z (halts (as-plain on-null)) d)
       go true d = inr refl
       go false d = inl refl
+
+  agree-app : (a : Applied) → Agree (appApp false a) (appApp true a)
+  unfolding appApp count
+  agree-app (gives v) = inl refl
+  agree-app overflows = inr refl
 
   agree : (os : List Occurrence) (t : Running) → Agree (due context s false os t) (due context s true os t)
   unfolding due count
@@ -86,7 +91,7 @@ module _ (context : ℕ → ℕ → Expr) (s : List Entry) where
   agree os (cond c t e) = agree-part (λ c′. cond c′ t e) _ _ (due context s false os c) (due context s true os c) (agree os c) (λ v. inl refl)
   agree os (app f x) =
       agree-part (λ f′. app f′ x) _ _ (due context s false os f) (due context s true os f) (agree os f)
-      (λ v. agree-part (λ x′. app (val v) x′) _ _ (due context s false os x) (due context s true os x) (agree os x) (λ w. inl refl))
+      (λ v. agree-part (λ x′. app (val v) x′) _ _ (due context s false os x) (due context s true os x) (agree os x) (λ w. agree-app (apply v w)))
   agree os (attr n a x) =
       agree-part (λ n′. attr n′ a x) _ _ (due context s false os n) (due context s true os n) (agree os n)
       (λ v. agree-part (λ x′. attr (val v) a x′) _ _ (due context s false os x) (due context s true os x) (agree os x) (λ w. agree-attr os _))

@@ -36,23 +36,26 @@ module _ (s : Sheet) (cap budget : ℕ) (entries : List Entry) (e : Expr) where
   abbrev start : State
   start = first entries e
 
+  -- the bound of its recursion is above its measure
+  enough : measure (context s) cap budget start < suc (2 * budget)
+  unfolding measure asked
+  enough = omega (arith, forms-put 0 unit e)
+
   pub question-runs : Runs (context s) cap budget start (runQuestion s cap budget entries e)
-  unfolding runQuestion measure asked
-  question-runs =
-      run-ends (context s) cap budget (suc (2 * budget)) start
-      (let f = forms-put 0 unit e in omega arith)
+  unfolding runQuestion
+  question-runs = run-ends (context s) cap budget (suc (2 * budget)) start enough
 
   pub question-is : {end : Ended} → Runs (context s) cap budget start end → runQuestion s cap budget entries e ≡ end
-  unfolding runQuestion measure asked
-  question-is r = run-is (context s) cap budget r (suc (2 * budget)) (let f = forms-put 0 unit e in omega arith)
+  unfolding runQuestion
+  question-is r = run-is (context s) cap budget r (suc (2 * budget)) enough
 
   pub question-traces : Traces (context s) cap budget start (traceQuestion s cap budget entries e)
-  unfolding traceQuestion measure asked
-  question-traces = trace-ends (context s) cap budget (suc (2 * budget)) start (let f = forms-put 0 unit e in omega arith)
+  unfolding traceQuestion
+  question-traces = trace-ends (context s) cap budget (suc (2 * budget)) start enough
 
   pub trace-question-is : {l : List Counted} → Traces (context s) cap budget start l → traceQuestion s cap budget entries e ≡ l
-  unfolding traceQuestion measure asked
-  trace-question-is r = trace-is (context s) cap budget r (suc (2 * budget)) (let f = forms-put 0 unit e in omega arith)
+  unfolding traceQuestion
+  trace-question-is r = trace-is (context s) cap budget r (suc (2 * budget)) enough
 
   -- what the question adds to the store
   pub question-appends : Appended cap entries (runQuestion s cap budget entries e .entries)

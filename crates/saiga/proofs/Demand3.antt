@@ -1,6 +1,5 @@
 -- Demand 3 holds of every accepted sheet.
 use mathlib.Core.Bool.{Bool, true, false}
-use mathlib.Core.Logic.{inl, inr}
 use mathlib.Core.List.{List, [], _∷_, _++_}
 use mathlib.Core.Option.{Option·none-ne-some}
 use mathlib.Core.Path.{_≡_, refl, _∙_, ap}
@@ -21,7 +20,7 @@ use Rattle.saiga.specs.Demand3.{PlainEnding, PlainEnds, Brings, HasEndin
 use Rattle.saiga.proofs.Keeping.{right-run}
 use Rattle.saiga.proofs.Larger.{Nested, alike, larger, Brings as RunBrings}
 use Rattle.saiga.proofs.Erasure.{Right, faithful-put}
-use Rattle.saiga.proofs.Endings.{same-ending, sound-ending, never-both, complete-ending}
+use Rattle.saiga.proofs.Endings.{no-ending, same-ending, sound-ending, never-both, complete-ending}
 use Rattle.saiga.proofs.Calls.{question-runs, question-follows, call-answered, call-over, call-malformed, budgets-agree, Passes, question-leaves, call-cases}
 
 -- ---- Lists
@@ -146,8 +145,7 @@ module _ (sheet : List ℕ) (s : Sheet) (ok : checkSheet sheet ≡ accepted s) w
   ending-permitted m entries q budget pass h = go (leb budget budgetLimit) refl
     where
       refute : (ask sheet m (asking q budget) .answer .number ≡ 11) → HasEnding (ask sheet m (asking q budget) .answer) → ⊥
-      refute e (inl h) = omega (arith, e, h)
-      refute e (inr h) = omega (arith, e, h)
+      refute e h = no-ending (λ is. omega (arith, e, is)) (λ is. omega (arith, e, is)) (λ is. omega (arith, e, is)) h
 
       go : (b : Bool) → leb budget budgetLimit ≡ b → budget ≤ budgetLimit
       go true p = leb-true budget budgetLimit p

@@ -10,12 +10,12 @@ use Rattle.saiga.specs.Values.{Value}
 use Rattle.saiga.specs.Expressions.{Expr}
 use Rattle.saiga.specs.Sheet.{Sheet, context}
 use Rattle.saiga.specs.Terms.{val}
-use Rattle.saiga.specs.Plain.{Plain, is-value, on-null, plainStep, plainAt, EndsWithValue, EndsOnNull, RunsForEver}
-use Rattle.saiga.specs.Caching.{Entry, null-node, spent, depth, with-value, by, Ending, Ended}
+use Rattle.saiga.specs.Plain.{Plain, NoValue, on-null, by-overflow, is-value, ends-without, plainStep, plainAt, EndsWithValue, EndsWithout, RunsForEver}
+use Rattle.saiga.specs.Caching.{Entry, as-plain, spent, depth, with-value, by, Ending, Ended}
 use Rattle.saiga.specs.Ask.{Answer, asked, reasonNumber, endedAnswer}
-use Rattle.saiga.specs.Demand3.{PlainEnding, a-value, on-null-node, PlainEnds, Brings, HasEnding}
+use Rattle.saiga.specs.Demand3.{PlainEnding, a-value, no-value, PlainEnds, Brings, HasEnding}
 use Rattle.saiga.proofs.Larger.{BringsIn}
-use Rattle.saiga.proofs.PlainFacts.{Final, final-value, final-null, last, one-end}
+use Rattle.saiga.proofs.PlainFacts.{Final, final-value, final-without, last, one-end}
 use Rattle.saiga.proofs.AgainstPlain.{Follows}
 
 -- An ended run by its parts.
@@ -26,6 +26,12 @@ ended-so ending steps entries = record { ending = ending; entries = entries; ste
 abbrev answer-of : Ending → ℕ → List Entry → Answer
 answer-of ending steps entries = endedAnswer (ended-so ending steps entries)
 
+-- a number of none of plain Saiga's endings
+pub no-ending : {n : ℕ} → (n ≡ 0 → ⊥) → (n ≡ 14 → ⊥) → (n ≡ 17 → ⊥) → (n ≡ 0) ⊎ (n ≡ 14) ⊎ (n ≡ 17) → ⊥
+no-ending not-0 not-14 not-17 (inl h) = not-0 h
+no-ending not-0 not-14 not-17 (inr (inl h)) = not-14 h
+no-ending not-0 not-14 not-17 (inr (inr h)) = not-17 h
+
 -- The larger store's run brings the same ending.
 pub same-ending : (ending : Ending) (steps : ℕ) (entries : List Entry) (large : Ended) → BringsIn ending steps large → HasEnding (answer-of ending steps entries)
     → let r = answer-of ending steps entries in
@@ -33,11 +39,9 @@ pub same-ending : (ending : Ending) (steps : ℕ) (entries : List Entry) (large 
     (r′ .number ≡ r .number) × (r′ .type ≡ r .type) × (r′ .value ≡ r .value) × (r′ .steps ≤ r .steps)
 unfolding endedAnswer reasonNumber HasEnding
 same-ending (with-value v) steps k large b h = rw (b .0) (refl, refl, refl, b .1)
-same-ending (by null-node) steps k large b h = rw (b .0) (refl, refl, refl, b .1)
-same-ending (by spent) steps k large b (inl h) = absurd (omega (arith, h))
-same-ending (by spent) steps k large b (inr h) = absurd (omega (arith, h))
-same-ending (by depth) steps k large b (inl h) = absurd (omega (arith, h))
-same-ending (by depth) steps k large b (inr h) = absurd (omega (arith, h))
+same-ending (by (as-plain why)) steps k large b h = rw (b .0) (refl, refl, refl, b .1)
+same-ending (by spent) steps k large b h = absurd (no-ending (omega arith) (omega arith) (omega arith) h)
+same-ending (by depth) steps k large b h = absurd (no-ending (omega arith) (omega arith) (omega arith) h)
 
 -- Stop 15 is given for the budget alone.
 pub kept-field : (end : Ended) → endedAnswer end .kept ≡ length (end .entries)
@@ -54,22 +58,26 @@ spent-number end h = rw h
 
 -- The numbers of the endings that plain Saiga has.
 module _ (s : Sheet) (e : Expr) (budget : ℕ) where
+  -- the number of each ending without a value
+  brings-why : (steps : ℕ) (entries : List Entry) (why : NoValue) → Brings (answer-of (by (as-plain why)) steps entries) (no-value why)
+  unfolding endedAnswer reasonNumber Brings
+  brings-why steps entries on-null = refl
+  brings-why steps entries by-overflow = refl
+
   -- the ending that an answer brings is plain Saiga's
   pub sound-ending : (ending : Ending) (steps : ℕ) (entries : List Entry) → Follows (context s) budget (asked e) steps ending → HasEnding (answer-of ending steps entries)
       → (p : PlainEnding) × (n : ℕ) × PlainEnds s e p n × Brings (answer-of ending steps entries) p × (answer-of ending steps entries .steps ≤ n)
-  unfolding endedAnswer reasonNumber HasEnding PlainEnds Brings EndsWithValue EndsOnNull
+  unfolding endedAnswer reasonNumber HasEnding PlainEnds Brings EndsWithValue EndsWithout
   sound-ending (with-value v) steps l f h = (a-value v, f .0, f .1, (refl, refl, refl), f .2)
-  sound-ending (by null-node) steps l f h = (on-null-node, f .0, (f .1, f .2, f .3), refl, f .4)
-  sound-ending (by spent) steps l f (inl h) = absurd (omega (arith, h))
-  sound-ending (by spent) steps l f (inr h) = absurd (omega (arith, h))
-  sound-ending (by depth) steps l f (inl h) = absurd (omega (arith, h))
-  sound-ending (by depth) steps l f (inr h) = absurd (omega (arith, h))
+  sound-ending (by (as-plain why)) steps l f h = (no-value why, f .0, (f .1, f .2, f .3), brings-why steps l why, f .4)
+  sound-ending (by spent) steps l f h = absurd (no-ending (omega arith) (omega arith) (omega arith) h)
+  sound-ending (by depth) steps l f h = absurd (no-ending (omega arith) (omega arith) (omega arith) h)
 
   -- where plain Saiga ends, no step is due
   ended : (p : PlainEnding) (n : ℕ) → PlainEnds s e p n → (t : Plain) × (plainAt (context s) n (asked e) ≡ some t) × Final (context s) t
-  unfolding PlainEnds EndsWithValue EndsOnNull
+  unfolding PlainEnds EndsWithValue EndsWithout
   ended (a-value v) n h = (val v, h, final-value (context s) v)
-  ended on-null-node n h = (h .0, h .1, final-null (context s) (h .0) (h .2))
+  ended (no-value why) n h = (h .0, h .1, final-without (context s) why (h .0) (h .2))
 
   -- it does not run for ever
   pub never-both : (p : PlainEnding) (n : ℕ) → PlainEnds s e p n → RunsForEver (context s) (asked e) → ⊥
@@ -81,20 +89,24 @@ module _ (s : Sheet) (e : Expr) (budget : ℕ) where
       omega arith
 
   -- and it ends once
-  not-both : (n : ℕ) (v : Value) → PlainEnds s e (a-value v) n → PlainEnds s e on-null-node n → ⊥
-  unfolding PlainEnds EndsWithValue EndsOnNull plainStep
-  not-both n v h k =
+  not-both : (n : ℕ) (v : Value) (why : NoValue) → PlainEnds s e (a-value v) n → PlainEnds s e (no-value why) n → ⊥
+  unfolding PlainEnds EndsWithValue EndsWithout plainStep
+  not-both n v why h k =
       let same : k .0 ≡ val v = cc (k .1) in
-      let clash : is-value v ≡ on-null = ap (plainStep (context s)) (sym same) ∙ k .2 in
+      let clash : is-value v ≡ ends-without why = ap (plainStep (context s)) (sym same) ∙ k .2 in
       let z : _≡_ {A = ℕ} 0 1 = cc in
       omega arith
 
   one-ending : (n : ℕ) (p q : PlainEnding) → PlainEnds s e p n → PlainEnds s e q n → p ≡ q
-  unfolding PlainEnds EndsWithValue
+  unfolding PlainEnds EndsWithValue EndsWithout
   one-ending n (a-value v) (a-value w) h k = let c : v ≡ w = cc in ap a-value c
-  one-ending n (a-value v) on-null-node h k = absurd (not-both n v h k)
-  one-ending n on-null-node (a-value w) h k = absurd (not-both n w k h)
-  one-ending n on-null-node on-null-node h k = refl
+  one-ending n (a-value v) (no-value why) h k = absurd (not-both n v why h k)
+  one-ending n (no-value why) (a-value w) h k = absurd (not-both n w why k h)
+  one-ending n (no-value why) (no-value why′) h k =
+      let same : h .0 ≡ k .0 = cc (h .1, k .1) in
+      let one : ends-without why ≡ ends-without why′ = sym (h .2) ∙ ap (plainStep (context s)) same ∙ k .2 in
+      let c : why ≡ why′ = cc in
+      ap no-value c
 
   ends-once : (p q : PlainEnding) (m n : ℕ) → PlainEnds s e p m → PlainEnds s e q n → (m ≡ n) × (p ≡ q)
   ends-once p q m n h k =
@@ -105,13 +117,13 @@ module _ (s : Sheet) (e : Expr) (budget : ℕ) where
 
   pub complete-ending : (ending : Ending) (steps : ℕ) (entries : List Entry) → Follows (context s) budget (asked e) steps ending → (p : PlainEnding) (n : ℕ) → PlainEnds s e p n
       → n ≤ budget → (Brings (answer-of ending steps entries) p × (answer-of ending steps entries .steps ≤ n)) ⊎ (answer-of ending steps entries .number ≡ 16)
-  unfolding endedAnswer reasonNumber Brings PlainEnds EndsWithValue EndsOnNull
+  unfolding endedAnswer reasonNumber Brings PlainEnds EndsWithValue EndsWithout
   complete-ending (with-value v) steps l f p n h m =
       let o = ends-once p (a-value v) n (f .0) h (f .1) in
       inl (rw (o .1) (refl, refl, refl), omega (arith, o .0, f .2))
-  complete-ending (by null-node) steps l f p n h m =
-      let o = ends-once p on-null-node n (f .0) h (f .1, f .2, f .3) in
-      inl (rw (o .1) refl, omega (arith, o .0, f .4))
+  complete-ending (by (as-plain why)) steps l f p n h m =
+      let o = ends-once p (no-value why) n (f .0) h (f .1, f .2, f .3) in
+      inl (rw (o .1) (brings-why steps l why), omega (arith, o .0, f .4))
   complete-ending (by spent) steps l f p n h m =
       let a = ended p n h in
       let n-more : suc (f .0) ≤ n = last (context s) n (suc (f .0)) (asked e) (a .0) (f .1) (a .1) (a .2) (f .2) in

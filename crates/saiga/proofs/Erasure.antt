@@ -7,11 +7,11 @@ use mathlib.Core.Path.{_≡_, refl, sym, _∙_, ap}
 use Prim.Native.Nat.{ℕ, zero, suc, _+_}
 use lib.Dec.{eqb}
 use native.Mathlib.Nat.{zero-add, suc-add}
-use Rattle.saiga.specs.Values.{Value, null, truth, nodeOf, apply}
+use Rattle.saiga.specs.Values.{Value, null, truth, nodeOf, Applied, gives, overflows, apply}
 use Rattle.saiga.specs.Expressions.{Expr, literal, if, application, attribute, this, parameter}
 use Rattle.saiga.specs.Terms.{Occurrence, Term, val, cond, app, attr, form, put}
-use Rattle.saiga.specs.Plain.{Plain, steps-to, on-null, stepPart, plainAttribute, plainStep, plainAt}
-use Rattle.saiga.specs.Caching.{Entry, Running, kept, Due, finished, counts, writes, halts, Counted, AppApp, AttrApp, null-node, spent, depth, duePart, count, tooDeep, attrApp, keptOr, due}
+use Rattle.saiga.specs.Plain.{Plain, steps-to, NoValue, on-null, ends-without, stepPart, plainApplication, plainAttribute, plainStep, plainAt}
+use Rattle.saiga.specs.Caching.{Entry, Running, kept, Due, finished, counts, writes, halts, Counted, AppApp, AttrApp, as-plain, spent, depth, duePart, count, appApp, tooDeep, attrApp, keptOr, due}
 use Rattle.saiga.proofs.PlainFacts.{stepped}
 
 -- the forms removed
@@ -59,7 +59,7 @@ module _ (context : ℕ → ℕ → Expr) where
   SeenAs p (finished v) = p ≡ val v
   SeenAs p (counts r t) = Advances p (erase t) × Faithful t
   SeenAs p (writes e t) = (p ≡ erase t) × Faithful t × Yields (e .occurrence) (e .value)
-  SeenAs p (halts null-node) = plainStep context p ≡ on-null
+  SeenAs p (halts (as-plain why)) = plainStep context p ≡ ends-without why
   SeenAs p (halts spent) = (t : Plain) × (plainStep context p ≡ steps-to t)
   SeenAs p (halts depth) = Unit {0}
 
@@ -91,27 +91,27 @@ module _ (context : ℕ → ℕ → Expr) where
   -- What plain Saiga does with a part it does with the whole.
   record Place (inside : Plain → Plain) : Type 0 where
     steps : (t t′ : Plain) → plainStep context t ≡ steps-to t′ → plainStep context (inside t) ≡ steps-to (inside t′)
-    ends : (t : Plain) → plainStep context t ≡ on-null → plainStep context (inside t) ≡ on-null
+    ends : (why : NoValue) (t : Plain) → plainStep context t ≡ ends-without why → plainStep context (inside t) ≡ ends-without why
 
   if-place : (t e : Plain) → Place (λ c. cond c t e)
   unfolding plainStep stepPart
-  if-place t e = record { steps = λ c c′ h. rw h; ends = λ c h. rw h }
+  if-place t e = record { steps = λ c c′ h. rw h; ends = λ why c h. rw h }
 
   left-place : (x : Plain) → Place (λ f. app f x)
   unfolding plainStep stepPart
-  left-place x = record { steps = λ f f′ h. rw h; ends = λ f h. rw h }
+  left-place x = record { steps = λ f f′ h. rw h; ends = λ why f h. rw h }
 
   right-place : (v : Value) → Place (λ x. app (val v) x)
   unfolding plainStep stepPart
-  right-place v = record { steps = λ x x′ h. rw h; ends = λ x h. rw h }
+  right-place v = record { steps = λ x x′ h. rw h; ends = λ why x h. rw h }
 
   node-place : (a : ℕ) (x : Plain) → Place (λ n. attr n a x)
   unfolding plainStep stepPart
-  node-place a x = record { steps = λ n n′ h. rw h; ends = λ n h. rw h }
+  node-place a x = record { steps = λ n n′ h. rw h; ends = λ why n h. rw h }
 
   parameter-place : (v : Value) (a : ℕ) → Place (λ x. attr (val v) a x)
   unfolding plainStep stepPart
-  parameter-place v a = record { steps = λ x x′ h. rw h; ends = λ x h. rw h }
+  parameter-place v a = record { steps = λ x x′ h. rw h; ends = λ why x h. rw h }
 
   -- One more step, and as many as are due, in the whole.
   pub step-first : (n : ℕ) (t t′ t″ : Plain) → plainStep context t ≡ steps-to t′ → plainAt context n t′ ≡ some t″ → plainAt context (suc n) t ≡ some t″
@@ -133,7 +133,7 @@ module _ (context : ℕ → ℕ → Expr) where
   seen-part within inside place same faithful after p (counts r t) s g =
       (record { more = s .0 .more; reached = place-comes place _ p (erase t) (s .0 .reached) ∙ ap some (sym (same t)) }, faithful t (s .1))
   seen-part within inside place same faithful after p (writes e t) s g = (ap inside (s .0) ∙ sym (same t), faithful t (s .1), s .2)
-  seen-part within inside place same faithful after p (halts null-node) s g = place .ends p s
+  seen-part within inside place same faithful after p (halts (as-plain why)) s g = place .ends why p s
   seen-part within inside place same faithful after p (halts spent) s g = (inside (s .0), place .steps p (s .0) (s .1))
   seen-part within inside place same faithful after p (halts depth) s g = tt
 
@@ -164,7 +164,7 @@ module _ (context : ℕ → ℕ → Expr) where
   seen-form o p c (finished v) s = (s, tt, rw s at c)
   seen-form o p c (counts r t) s = (s .0, (advances c (s .0), s .1))
   seen-form o p c (writes e t) s = (s .0, (rw (s .0) at c, s .1), s .2)
-  seen-form o p c (halts null-node) s = s
+  seen-form o p c (halts (as-plain why)) s = s
   seen-form o p c (halts spent) s = s
   seen-form o p c (halts depth) s = tt
 
@@ -187,13 +187,13 @@ module _ (context : ℕ → ℕ → Expr) where
         t = form o (keptOr (kept s o) (σ o))
 
         go : (z : Bool) → eqb (nodeOf v) null ≡ z → (c d : Bool)
-            → SeenAs (attr (val v) a (val w)) (Bool.cond z (halts null-node) (Bool.cond c (Bool.cond d (halts depth) (counts (AttrApp a) t)) (halts spent)))
-        go true e c d = ap (λ z. Bool.cond z on-null (steps-to (σ o))) e
+            → SeenAs (attr (val v) a (val w)) (Bool.cond z (halts (as-plain on-null)) (Bool.cond c (Bool.cond d (halts depth) (counts (AttrApp a) t)) (halts spent)))
+        go true e c d = ap (λ z. Bool.cond z (ends-without on-null) (steps-to (σ o))) e
         go false e true true = tt
         go false e true false =
             let k = seen-kept o (kept s o) refl in
-            (record { more = k .0 .count; reached = step-first _ _ (σ o) _ (ap (λ z. Bool.cond z on-null (steps-to (σ o))) e) (k .0 .reached) }, (k .0, k .1))
-        go false e false d = (σ o, ap (λ z. Bool.cond z on-null (steps-to (σ o))) e)
+            (record { more = k .0 .count; reached = step-first _ _ (σ o) _ (ap (λ z. Bool.cond z (ends-without on-null) (steps-to (σ o))) e) (k .0 .reached) }, (k .0, k .1))
+        go false e false d = (σ o, ap (λ z. Bool.cond z (ends-without on-null) (steps-to (σ o))) e)
 
     seen-count : (p : Plain) (r : Counted) (t : Running) → plainStep context p ≡ steps-to (erase t) → Faithful t → SeenAs p (count b r t)
     unfolding count plainAt
@@ -202,6 +202,11 @@ module _ (context : ℕ → ℕ → Expr) where
         go : (c : Bool) → SeenAs p (Bool.cond c (counts r t) (halts spent))
         go true = (record { more = 0; reached = step-first 0 p (erase t) (erase t) e refl }, f)
         go false = (erase t, e)
+
+    seen-app : (p : Plain) (a : Applied) → plainStep context p ≡ plainApplication a → SeenAs p (appApp b a)
+    unfolding plainApplication appApp erase
+    seen-app p (gives v) e = seen-count p AppApp (val v) e tt
+    seen-app p overflows e = e
 
     branch : (z : Bool) (t e : Running) → Faithful t → Faithful e → (erase (Bool.cond z t e) ≡ Bool.cond z (erase t) (erase e)) × Faithful (Bool.cond z t e)
     branch true t e f g = (refl, f)
@@ -219,7 +224,7 @@ module _ (context : ℕ → ℕ → Expr) where
         (due context s b os g) (seen-at os g (f .0))
         (λ v h. rw h
         (seen-part (λ x′. app (val v) x′) (λ x′. app (val v) x′) (right-place v) (λ x′. refl) (λ x′ k. (tt, k)) _ (erase x)
-        (due context s b os x) (seen-at os x (f .1)) (λ w k. rw k (seen-count _ AppApp (val (apply v w)) refl tt))))
+        (due context s b os x) (seen-at os x (f .1)) (λ w k. rw k (seen-app _ (apply v w) refl))))
     seen-at os (attr n a x) f =
         seen-part (λ n′. attr n′ a x) (λ n′. attr n′ a (erase x)) (node-place a (erase x)) (λ n′. refl) (λ n′ h. (h, f .1)) _ (erase n)
         (due context s b os n) (seen-at os n (f .0))

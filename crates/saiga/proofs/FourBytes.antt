@@ -1,5 +1,5 @@
 -- The four-byte form of the base values, and bytes: writing and reading undo one another.
-use mathlib.Core.Bool.{Bool, true, false, cond, _||_}
+use mathlib.Core.Bool.{Bool, true, false, false≢true, cond, _||_}
 use mathlib.Core.Path.{_≡_, refl, sym, ap}
 use Prim.Native.Nat.{ℕ, zero, suc, _+_, _-_, _/_, _%_, _^_, _≤_, _<_}
 use native.Mathlib.Nat.{pow-zero, pow-suc, mod-add-div, div-lt-iff-lt-mul}
@@ -7,9 +7,9 @@ use native.Mathlib.Omega.{arith}
 use lib.Dec.{ltb, eqb, leb→le, le→leb, lit<}
 use lib.IntN.{ℤ, pos, negsuc}
 use lib.ListN.{length}
-use lib.Signed.{mag}
+use lib.Signed.{mag, ltZ}
 use borrow.Author.Tests.{ltb-true, ltb-false, eqb-true, eqb-false, lt-ltb, le-ltb, eq-eqb}
-use Rattle.saiga.specs.Values.{Base, unitT, boolT, intT, nodeT, baseCode, base, Value, unit, bool, int, node, typeOf, null, lowest, highest, held, equalZ, wordLimit, signBit, ofBytes, toBytes, signed, unsigned, bit, isWord, ofWord, toWord, typeCode, sameValue}
+use Rattle.saiga.specs.Values.{Base, unitT, boolT, intT, nodeT, baseCode, base, Value, unit, bool, int, node, typeOf, null, lowest, highest, fits, beyond, exact, Applied, gives, overflows, summed, equalZ, wordLimit, signBit, ofBytes, toBytes, signed, unsigned, bit, isWord, ofWord, toWord, typeCode, sameValue}
 use Rattle.saiga.specs.FourBytes.{TwosComplement, IsInt, WritingAndReading, FourEnds}
 use Rattle.saiga.specs.Sound.{IsA}
 
@@ -71,6 +71,35 @@ writing-and-reading = (
   (λ z i. let small = int-mag z i in (unsigned-small z small, signed-unsigned z small)),
   λ u h. (mag-int (signed u) (signed-mag u h), unsigned-signed u h),
 )
+
+-- The test of a sum tells whether it is an Int.
+between-mag : (z : ℤ) → (ltZ z lowest || ltZ highest z) ≡ false → mag z < signBit
+between-mag (pos n) e = omega (arith, ltb-false 2147483647 n e)
+between-mag (negsuc n) e = go (ltb 2147483647 n) refl e
+  where
+    go : (b : Bool) → ltb 2147483647 n ≡ b → (b || false) ≡ false → n < signBit
+    go true h e = absurd (false≢true (sym e))
+    go false h e = omega (arith, ltb-false 2147483647 n h)
+
+between-ends : (z : ℤ) → (ltZ z lowest || ltZ highest z) ≡ false → IsInt z
+between-ends z e = mag-int z (between-mag z e)
+
+beyond-ends : (z : ℤ) → (ltZ z lowest || ltZ highest z) ≡ true → IsInt z → ⊥
+beyond-ends (pos n) e i = omega (arith, ltb-true 2147483647 n e, int-mag (pos n) i)
+beyond-ends (negsuc n) e i = go (ltb 2147483647 n) refl e
+  where
+    go : (b : Bool) → ltb 2147483647 n ≡ b → (b || false) ≡ true → ⊥
+    go true h e = omega (arith, ltb-true 2147483647 n h, int-mag (negsuc n) i)
+    go false h e = false≢true e
+
+-- What add and subtract give, by whether their exact result is an Int.
+pub by-ends : (P : Applied → Type 0) (z : ℤ) → (IsInt z → P (gives (int z))) → ((IsInt z → ⊥) → P overflows) → P (summed (exact z))
+unfolding exact summed
+by-ends P z inside outside = go (ltZ z lowest || ltZ highest z) refl
+  where
+    go : (b : Bool) → (ltZ z lowest || ltZ highest z) ≡ b → P (summed (cond b beyond (fits z)))
+    go true e = outside (beyond-ends z e)
+    go false e = inside (between-ends z e)
 
 -- ---- The form of a value
 
@@ -156,25 +185,11 @@ unfolding isWord ofWord toWord
 bool-in nodes true = record { is-word = refl; round-trip = refl }
 bool-in nodes false = record { is-word = refl; round-trip = refl }
 
-int-in : (nodes : ℕ) (z : ℤ) → mag z < signBit → IsA nodes intT (int z)
+pub int-in : (nodes : ℕ) (z : ℤ) → IsInt z → IsA nodes intT (int z)
 unfolding isWord ofWord toWord
-int-in nodes z h = record { is-word = lt-ltb (unsigned z) wordLimit (unsigned-small z h); round-trip = ap int (signed-unsigned z h) }
-
-held-mag : (z : ℤ) → mag (held z) < signBit
-unfolding held
-held-mag (pos n) = go (ltb 2147483647 n) refl
-  where
-    go : (b : Bool) → ltb 2147483647 n ≡ b → mag (cond b highest (pos n)) < signBit
-    go true e = lit< tt
-    go false e = let l = ltb-false 2147483647 n e in omega arith
-held-mag (negsuc n) = go (ltb 2147483647 n) refl
-  where
-    go : (b : Bool) → ltb 2147483647 n ≡ b → mag (cond b lowest (negsuc n)) < signBit
-    go true e = lit< tt
-    go false e = let l = ltb-false 2147483647 n e in omega arith
-
-pub held-in : (nodes : ℕ) (z : ℤ) → IsA nodes intT (int (held z))
-held-in nodes z = int-in nodes (held z) (held-mag z)
+int-in nodes z i =
+    let (small, is) = writing-and-reading .0 z i in
+    record { is-word = lt-ltb (unsigned z) wordLimit small; round-trip = ap int is }
 
 -- ---- Bytes
 

@@ -11,14 +11,14 @@ use lib.Dec.{leb, ltb, eqb}
 use lib.ListN.{length}
 use borrow.Author.Tests.{leb-true, leb-false, ltb-true, lt-ltb}
 use Rattle.saiga.specs.Limits.{depthLimit}
-use Rattle.saiga.specs.Values.{Value, null, nodeOf}
+use Rattle.saiga.specs.Values.{Value, null, nodeOf, Applied, gives, overflows, apply}
 use Rattle.saiga.specs.Expressions.{Expr}
 use Rattle.saiga.specs.Terms.{Occurrence, val, cond, app, attr, form, put}
-use Rattle.saiga.specs.Plain.{plainStep, is-value, on-null}
-use Rattle.saiga.specs.Caching.{Entry, Running, kept, isKept, write, Counted, AttrApp, null-node, spent, depth, Due, finished, counts, writes, halts, duePart, count, keptOr, tooDeep, attrApp, due, State, Ending, with-value, by, Ended, dueAt}
+use Rattle.saiga.specs.Plain.{plainStep, is-value, on-null, ends-without}
+use Rattle.saiga.specs.Caching.{Entry, Running, kept, isKept, write, Counted, AppApp, AttrApp, as-plain, spent, depth, Due, finished, counts, writes, halts, duePart, count, appApp, keptOr, tooDeep, attrApp, due, State, Ending, with-value, by, Ended, dueAt}
 use Rattle.saiga.specs.Runs.{Runs, ends-value, ends-by, goes-counted, goes-writing}
 use Rattle.saiga.proofs.Erasure.{erase, Yields, Right, Faithful, Seen, seen}
-use Rattle.saiga.proofs.PlainFacts.{final-value, final-null, one-end, one-value}
+use Rattle.saiga.proofs.PlainFacts.{final-value, final-without, one-end, one-value}
 use Rattle.saiga.proofs.RunEnds.{after}
 use Rattle.saiga.proofs.Depth.{not-deep-kept, not-deep-few}
 use Rattle.saiga.proofs.Keeping.{write-kept, write-full, write-alike, kept-write, kept-run, right-write, seen-at}
@@ -46,10 +46,10 @@ not-deeper s S within os os′ fewer o = go (kept s o) refl
     go none k shallow = not-deep-few S os′ o (omega (arith, leb-false depthLimit (length os) shallow))
     go (some v) k shallow = not-deep-kept S os′ o (within o v k)
 
--- The second ending is the first's, with no more steps, where the first is a value or null.
+-- The second ending is the first's, with no more steps, where the first is one that plain Saiga has.
 abbrev pub BringsIn : Ending → ℕ → Ended → Type 0
 BringsIn (with-value v) c large = (large .ending ≡ with-value v) × (large .steps ≤ c)
-BringsIn (by null-node) c large = (large .ending ≡ by null-node) × (large .steps ≤ c)
+BringsIn (by (as-plain why)) c large = (large .ending ≡ by (as-plain why)) × (large .steps ≤ c)
 BringsIn (by spent) c large = Unit {0}
 BringsIn (by depth) c large = Unit {0}
 
@@ -62,7 +62,7 @@ one-ending C {end} same = rw same (alike refl, go (end .ending) refl)
   where
     go : (e : Ending) → end .ending ≡ e → BringsIn e (end .steps) end
     go (with-value v) is = (is, omega arith)
-    go (by null-node) is = (is, omega arith)
+    go (by (as-plain why)) is = (is, omega arith)
     go (by spent) is = tt
     go (by depth) is = tt
 
@@ -106,7 +106,7 @@ module _ (context : ℕ → ℕ → Expr) (S : List Entry) where
   Follows B os t′ (finished v) = t′ ≡ val v
   Follows B os t′ (counts r t) = Ahead S t t′ ⊎ ((t″ : Running) × (due context S B os t′ ≡ counts r t″) × Lands os t t″)
   Follows B os t′ (writes n t) = Ahead S t t′ ⊎ ((t″ : Running) × (due context S B os t′ ≡ writes n t″) × Ahead S t t″)
-  Follows B os t′ (halts null-node) = due context S B os t′ ≡ halts null-node
+  Follows B os t′ (halts (as-plain why)) = due context S B os t′ ≡ halts (as-plain why)
   Follows B os t′ (halts spent) = Unit {0}
   Follows B os t′ (halts depth) = Unit {0}
 
@@ -130,7 +130,7 @@ module _ (context : ℕ → ℕ → Expr) (S : List Entry) where
     follows-part B t′ after-small (writes n t) (inl h) k = inl (place t t′ h)
     follows-part B t′ after-small (writes n t) (inr h) k =
         inr (inside′ (h .0), at-part B t′ ∙ ap (duePart inside′ (after B)) (h .1), place t (h .0) (h .2))
-    follows-part B t′ after-small (halts null-node) h k = at-part B t′ ∙ ap (duePart inside′ (after B)) h
+    follows-part B t′ after-small (halts (as-plain why)) h k = at-part B t′ ∙ ap (duePart inside′ (after B)) h
     follows-part B t′ after-small (halts spent) h k = tt
     follows-part B t′ after-small (halts depth) h k = tt
 
@@ -141,9 +141,16 @@ module _ (context : ℕ → ℕ → Expr) (S : List Entry) where
   follows-count true B budgets os′ r t t′ e = inr (t, e ∙ ap (λ B. count B r t) (budgets refl), at-once (ahead-refl S t))
   follows-count false B budgets os′ r t t′ e = tt
 
+  -- AppApp
+  follows-app : (b B : Bool) → (b ≡ true → B ≡ true) → (os′ : List Occurrence) (t′ : Running) (a : Applied)
+      → due context S B os′ t′ ≡ appApp B a → Follows B os′ t′ (appApp b a)
+  unfolding appApp
+  follows-app b B budgets os′ t′ (gives v) e = follows-count b B budgets os′ AppApp (val v) t′ e
+  follows-app b B budgets os′ t′ overflows e = e
+
 module _ (context : ℕ → ℕ → Expr) (s S : List Entry) (within : Contained s S) (r : Right context s) (R : Right context S)
     (b B : Bool) (budgets : b ≡ true → B ≡ true) where
-  -- Inside a form that the larger run has done: plain Saiga makes of σ what is kept, so the smaller comes to that and not to null.
+  -- Inside a form that the larger run has done: plain Saiga makes of σ what is kept, so the smaller comes to that and to no other end.
   follows-done : (os os′ : List Occurrence) (o : Occurrence) (e : Running) (v : Value) → kept S o ≡ some v → Faithful context (form o e)
       → Follows context S B os′ (val v) (due context s b os (form o e))
   unfolding due duePart plainStep
@@ -159,10 +166,10 @@ module _ (context : ℕ → ℕ → Expr) (s S : List Entry) (within : Contained
           inl (rw (same .0) same-val)
       go (counts c t) h = inl (done k)
       go (writes n t) h = inl (done k)
-      go (halts null-node) h =
+      go (halts (as-plain why)) h =
           let same = one-end context (y .count) (f .0 .count) _ (val v) (erase e) (y .reached) (f .0 .reached)
-          (final-value context v) (final-null context (erase e) h) in
-          let step : is-value v ≡ on-null = ap (plainStep context) (same .0) ∙ h in
+          (final-value context v) (final-without context why (erase e) h) in
+          let step : is-value v ≡ ends-without why = ap (plainStep context) (same .0) ∙ h in
           cc
       go (halts spent) h = tt
       go (halts depth) h = tt
@@ -206,7 +213,7 @@ module _ (context : ℕ → ℕ → Expr) (s S : List Entry) (within : Contained
       by-budget false e no-null = tt
 
       by-null : (z : Bool) → eqb (nodeOf n) null ≡ z
-          → Follows context S B os′ (attr (val n) a (val w)) (Bool.cond z (halts null-node) (Bool.cond b deep (halts spent)))
+          → Follows context S B os′ (attr (val n) a (val w)) (Bool.cond z (halts (as-plain on-null)) (Bool.cond b deep (halts spent)))
       by-null true e = rw e
       by-null false e = by-budget b refl e
 
@@ -225,7 +232,7 @@ module _ (context : ℕ → ℕ → Expr) (s S : List Entry) (within : Contained
       λ v is. rw is (
       follows-part context S os′ os′ (λ x. app (val v) x) (λ x. app (val v) x) _ (λ u u′ h. in-app same-val h) (λ B u. refl)
       B x′ _ (due context s b os x) (follows os os′ fewer k (f .1))
-      λ w is. follows-count context S b B budgets os′ _ _ (app (val v) x′) (ap (λ u. due context S B os′ (app (val v) u)) is))
+      λ w is. follows-app context S b B budgets os′ (app (val v) x′) (apply v w) (ap (λ u. due context S B os′ (app (val v) u)) is))
   follows os os′ fewer (in-attr {n} {n′} {x} {x′} {a} h k) f =
       follows-part context S os′ os′ (λ n. attr n a x) (λ n. attr n a x′) _ (λ u u′ h. in-attr h k) (λ B u. refl)
       B n′ _ (due context s b os n) (follows os os′ fewer h (f .0))
@@ -341,7 +348,7 @@ module _ (context : ℕ → ℕ → Expr) (C C′ budget : ℕ) where
       let is : st′ .term ≡ val v = rw d at (followed st st′ h) in
       let end = after context C′ budget run (ap (λ t. due context (st′ .entries) (ltb (st′ .steps) budget) [] t) is) in
       rw end (refl, h .no-more)
-  catches (ends-by {st} {r = null-node} d) st′ h large run =
+  catches (ends-by {st} {r = as-plain why} d) st′ h large run =
       let end = after context C′ budget run (rw d at (followed st st′ h)) in
       rw end (refl, h .no-more)
   catches (ends-by {r = spent} d) st′ h large run = tt

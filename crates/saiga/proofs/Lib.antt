@@ -4,6 +4,7 @@ pub mod TableStops
 pub mod TableStores
 pub mod TableTypes
 pub mod TableTally
+pub mod TableOverflow
 pub mod FourBytes
 pub mod Equality
 pub mod Inference
@@ -16,6 +17,7 @@ pub mod RunEnds
 pub mod Keeping
 pub mod Tally
 pub mod Depth
+pub mod Overflow
 pub mod Larger
 pub mod Preservation
 pub mod Entries

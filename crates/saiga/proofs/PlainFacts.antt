@@ -6,7 +6,7 @@ use native.Mathlib.Omega.{arith}
 use Rattle.saiga.specs.Values.{Value}
 use Rattle.saiga.specs.Expressions.{Expr}
 use Rattle.saiga.specs.Terms.{val}
-use Rattle.saiga.specs.Plain.{Plain, PlainStep, is-value, steps-to, on-null, plainStep, plainAt}
+use Rattle.saiga.specs.Plain.{Plain, PlainStep, is-value, steps-to, NoValue, ends-without, plainStep, plainAt}
 
 module _ (context : ℕ → ℕ → Expr) where
   -- Where plain Saiga comes on by one step and more, the first of them is due.
@@ -17,9 +17,9 @@ module _ (context : ℕ → ℕ → Expr) where
       go : (d : PlainStep) → plainStep context t ≡ d → (t′ : Plain) × (plainStep context t ≡ steps-to t′) × (plainAt context n t′ ≡ some t″)
       go (is-value u) e = absurd (Option·none-ne-some t″ (rw (e, plainAt) at p))
       go (steps-to t′) e = (t′, e, rw (e, plainAt) at p)
-      go on-null e = absurd (Option·none-ne-some t″ (rw (e, plainAt) at p))
+      go (ends-without why) e = absurd (Option·none-ne-some t″ (rw (e, plainAt) at p))
 
-  -- No step is due: a value, or null.
+  -- No step is due: a value, or an ending without one.
   abbrev pub Final : Plain → Type 0
   Final t = (t′ : Plain) → plainStep context t ≡ steps-to t′ → ⊥
 
@@ -27,8 +27,8 @@ module _ (context : ℕ → ℕ → Expr) where
   unfolding plainStep
   final-value v t′ e = let z : _≡_ {A = ℕ} 0 1 = cc in omega arith
 
-  pub final-null : (t : Plain) → plainStep context t ≡ on-null → Final t
-  final-null t h t′ e = let z : _≡_ {A = ℕ} 0 1 = cc in omega arith
+  pub final-without : (why : NoValue) (t : Plain) → plainStep context t ≡ ends-without why → Final t
+  final-without why t h t′ e = let z : _≡_ {A = ℕ} 0 1 = cc in omega arith
 
   -- Plain Saiga comes no further than where no step is due.
   pub last : (n m : ℕ) (q t t′ : Plain) → plainAt context n q ≡ some t → Final t → plainAt context m q ≡ some t′ → m ≤ n

@@ -7,20 +7,22 @@ use mathlib.Core.List.{List, [], _∷_, _++_}
 use mathlib.Core.Path.{_≡_, refl, sym, _∙_, ap, subst}
 use Prim.Native.Nat.{ℕ, zero, suc, _<_}
 use lib.Dec.{eqb, ltb, leb}
+use lib.IntN.{ℤ}
 use lib.ListN.{length}
 use native.Mathlib.Omega.{arith}
 use borrow.Author.Tests.{ltb-true, lt-ltb}
-use Rattle.saiga.specs.Values.{Base, nodeT, Ty, base, _⇒_, Value, unit, bool, int, node, function, holding, Function, le, equalInt, equalNode, negation, add, subtract, Holding, leOf, equalIntOf, equalNodeOf, addTo, subtractFrom, functionType, holdingType, typeOf, null, truth, nodeOf, applyFunction, applyHolding, apply, isWord, ofWord, toWord}
+use Rattle.saiga.specs.Values.{Base, intT, nodeT, Ty, base, _⇒_, Value, unit, bool, int, node, function, holding, Function, le, equalInt, equalNode, negation, add, subtract, Holding, leOf, equalIntOf, equalNodeOf, addTo, subtractFrom, functionType, holdingType, typeOf, null, truth, nodeOf, exact, Applied, gives, overflows, applyFunction, summed, applyHolding, apply, isWord, ofWord, toWord}
 use Rattle.saiga.specs.Expressions.{Expr, Scope}
 use Rattle.saiga.specs.Types.{Attribute, attributeAt}
 use Rattle.saiga.specs.Terms.{Occurrence, put}
-use Rattle.saiga.specs.Plain.{Plain, PlainStep, is-value, steps-to, on-null, stepPart, plainAttribute, plainStep, plainAt}
-use Rattle.saiga.specs.Caching.{Entry, sameOccurrence, kept, isKept, write, Running, Counted, CondTrue, CondFalse, AppApp, AttrApp, Reason, null-node, spent, depth, Due, finished, counts, writes, halts, duePart, count, condRule, keptOr, tooDeep, attrApp, due, State, with-value, by, Ended, dueAt, run}
+use Rattle.saiga.specs.Plain.{Plain, PlainStep, is-value, steps-to, ends-without, on-null, stepPart, plainApplication, plainAttribute, plainStep, plainAt}
+use Rattle.saiga.specs.Caching.{Entry, sameOccurrence, kept, isKept, write, Running, Counted, AppApp, AttrApp, Reason, as-plain, spent, depth, Due, finished, counts, writes, halts, duePart, count, condRule, appApp, keptOr, tooDeep, attrApp, due, State, with-value, by, Ended, dueAt, run}
 use Rattle.saiga.specs.Runs.{Reaches, at-first, by-counted, by-writing, Traces, none-value, none-by, one-counted, past-writing}
 use Rattle.saiga.specs.Sound.{IsA, ValueIn, ExprIn, literal∈, if∈, application∈, attribute∈, this∈, parameter∈, OccurrenceIn, EntryIn, All, all-none, all-cons, TermIn, PlainIn, RunningIn, val∈, cond∈, app∈, attr∈, form∈, ContextIn}
-use Rattle.saiga.proofs.FourBytes.{held-in, bool-in}
+use Rattle.saiga.proofs.FourBytes.{by-ends, int-in, bool-in}
 use Rattle.saiga.proofs.Equality.{same-occurrence}
 use Rattle.saiga.proofs.PlainFacts.{stepped}
+use Rattle.saiga.proofs.Tally.{AmongFirst}
 
 -- ---- Values
 
@@ -29,6 +31,14 @@ result-of e = cc
 
 pub no-function {ℓ} : {A : Type ℓ} {B C : Base} {T : Ty} → base B ≡ (C ⇒ T) → A
 no-function e = absurd (let z : _≡_ {A = ℕ} 0 1 = cc in omega arith)
+
+-- what a function gives, of a type
+abbrev pub AppliedIn : ℕ → Ty → Applied → Type 0
+AppliedIn nodes T (gives v) = ValueIn nodes T v
+AppliedIn nodes T overflows = Unit {0}
+
+summed-in : (nodes : ℕ) (z : ℤ) → AppliedIn nodes (base intT) (summed (exact z))
+summed-in nodes z = by-ends (AppliedIn nodes (base intT)) z (λ i. int-in nodes z i) (λ _. tt)
 
 module _ (nodes : ℕ) {B : Base} {T : Ty} (x : Value) where
   function-in : (f : Function) → functionType f ≡ (B ⇒ T) → ValueIn nodes T (applyFunction f x)
@@ -40,15 +50,15 @@ module _ (nodes : ℕ) {B : Base} {T : Ty} (x : Value) where
   function-in add e = rw (← result-of e) refl
   function-in subtract e = rw (← result-of e) refl
 
-  holding-in : (h : Holding) → holdingType h ≡ (B ⇒ T) → ValueIn nodes T (applyHolding h x)
+  holding-in : (h : Holding) → holdingType h ≡ (B ⇒ T) → AppliedIn nodes T (applyHolding h x)
   unfolding holdingType applyHolding
   holding-in (leOf y) e = rw (← result-of e) (bool-in nodes _)
   holding-in (equalIntOf y) e = rw (← result-of e) (bool-in nodes _)
   holding-in (equalNodeOf y) e = rw (← result-of e) (bool-in nodes _)
-  holding-in (addTo y) e = rw (← result-of e) (held-in nodes _)
-  holding-in (subtractFrom y) e = rw (← result-of e) (held-in nodes _)
+  holding-in (addTo y) e = rw (← result-of e) (summed-in nodes _)
+  holding-in (subtractFrom y) e = rw (← result-of e) (summed-in nodes _)
 
-pub apply-in : (nodes : ℕ) (B : Base) (T : Ty) (f x : Value) → ValueIn nodes (B ⇒ T) f → IsA nodes B x → ValueIn nodes T (apply f x)
+pub apply-in : (nodes : ℕ) (B : Base) (T : Ty) (f x : Value) → ValueIn nodes (B ⇒ T) f → IsA nodes B x → AppliedIn nodes T (apply f x)
 unfolding typeOf apply
 apply-in nodes B T unit x e h = no-function e
 apply-in nodes B T (bool b) x e h = no-function e
@@ -136,7 +146,7 @@ write-in {P} capacity {s} {e} h n =
 abbrev PlainStepIn : ℕ → List Attribute → Ty → PlainStep → Type 0
 PlainStepIn nodes sig T (is-value v) = ValueIn nodes T v
 PlainStepIn nodes sig T (steps-to t) = PlainIn nodes sig t T
-PlainStepIn nodes sig T on-null = Unit {0}
+PlainStepIn nodes sig T (ends-without why) = Unit {0}
 
 module _ (nodes : ℕ) (sig : List Attribute) where
   plain-part-in : {S T : Ty} (inside : Plain → Plain) (after : Value → PlainStep) (d : PlainStep) → PlainStepIn nodes sig S d
@@ -145,14 +155,19 @@ module _ (nodes : ℕ) (sig : List Attribute) where
   unfolding stepPart
   plain-part-in inside after (is-value v) h f g = g v h
   plain-part-in inside after (steps-to t) h f g = f t h
-  plain-part-in inside after on-null h f g = tt
+  plain-part-in inside after (ends-without why) h f g = tt
+
+  plain-application-in : (T : Ty) (a : Applied) → AppliedIn nodes T a → PlainStepIn nodes sig T (plainApplication a)
+  unfolding plainApplication
+  plain-application-in T (gives v) h = val∈ h
+  plain-application-in T overflows h = tt
 
   module _ (context : ℕ → ℕ → Expr) (c : ContextIn nodes sig context) where
     plain-attribute-in : (v : Value) (a : ℕ) (x : Value) → a < length sig → IsA nodes nodeT v → IsA nodes (attributeAt sig a .parameter-type) x
         → PlainStepIn nodes sig (base (attributeAt sig a .result)) (plainAttribute context (nodeOf v) a x)
     unfolding plainAttribute
     plain-attribute-in v a x ha hv hx =
-        either (PlainStepIn nodes sig (base (attributeAt sig a .result))) (eqb (nodeOf v) null) {x = on-null} (λ _. tt)
+        either (PlainStepIn nodes sig (base (attributeAt sig a .result))) (eqb (nodeOf v) null) {x = ends-without on-null} (λ _. tt)
         (λ q. σ-in nodes sig context c _ (due-occurrence nodes sig v a x ha hv hx q))
 
     pub plain-step-in : (t : Plain) (T : Ty) → PlainIn nodes sig t T → PlainStepIn nodes sig T (plainStep context t)
@@ -164,7 +179,7 @@ module _ (nodes : ℕ) (sig : List Attribute) where
     plain-step-in _ T (app∈ {f = f} {x = x} {B = B} hf hx) =
         plain-part-in _ _ (plainStep context f) (plain-step-in _ _ hf) (λ _ h. app∈ h hx)
         (λ v hv. plain-part-in _ _ (plainStep context x) (plain-step-in _ _ hx) (λ _ h. app∈ (val∈ hv) h)
-        (λ w hw. val∈ (apply-in nodes B T v w hv hw)))
+        (λ w hw. plain-application-in T (apply v w) (apply-in nodes B T v w hv hw)))
     plain-step-in _ _ (attr∈ {n = n} {x = x} {a = a} ha hn hx) =
         plain-part-in _ _ (plainStep context n) (plain-step-in _ _ hn) (λ _ h. attr∈ ha h hx)
         (λ v hv. plain-part-in _ _ (plainStep context x) (plain-step-in _ _ hx) (λ _ h. attr∈ ha (val∈ hv) h)
@@ -182,10 +197,7 @@ module _ (nodes : ℕ) (sig : List Attribute) where
 
 -- the rule of a counted step: AttrApp is of a declared attribute
 abbrev pub RuleIn : List Attribute → Counted → Type 0
-RuleIn sig CondTrue = Unit {0}
-RuleIn sig CondFalse = Unit {0}
-RuleIn sig AppApp = Unit {0}
-RuleIn sig (AttrApp a) = a < length sig
+RuleIn sig r = AmongFirst (length sig) r
 
 abbrev pub DueIn : ℕ → List Attribute → Ty → Due → Type 0
 DueIn nodes sig T (finished v) = ValueIn nodes T v
@@ -207,6 +219,11 @@ module _ (nodes : ℕ) (sig : List Attribute) where
   unfolding count
   count-in {T} {t} b r rule h = either (DueIn nodes sig T) b {x = counts r t} {y = halts spent} (λ _. (rule, h)) (λ _. tt)
 
+  appApp-in : (T : Ty) (b : Bool) (a : Applied) → AppliedIn nodes T a → DueIn nodes sig T (appApp b a)
+  unfolding appApp
+  appApp-in T b (gives v) h = count-in b AppApp tt (val∈ h)
+  appApp-in T b overflows h = tt
+
   cond-rule-in : (b : Bool) → RuleIn sig (condRule b)
   unfolding condRule
   cond-rule-in true = tt
@@ -225,7 +242,7 @@ module _ (nodes : ℕ) (sig : List Attribute) where
         → DueIn nodes sig (base (attributeAt sig a .result)) (attrApp context s b os record { node = nodeOf v; attribute = a; parameter = x })
     unfolding attrApp
     attrApp-in os v a x ha hv hx =
-        either D (eqb (nodeOf v) null) {x = halts null-node} (λ _. tt)
+        either D (eqb (nodeOf v) null) {x = halts (as-plain on-null)} (λ _. tt)
         (λ q. either D b {y = halts spent}
         (λ _. either D (tooDeep s os _) {x = halts depth} (λ _. tt)
         (λ _. let o = due-occurrence nodes sig v a x ha hv hx q in (ha, form∈ (o, refl) (keptOr-in _ o _ refl))))
@@ -243,7 +260,7 @@ module _ (nodes : ℕ) (sig : List Attribute) where
     due-in os _ T (app∈ {f = f} {x = x} {B = B} hf hx) =
         part-in _ _ (due context s b os f) (due-in os _ _ hf) (λ _ h. app∈ h hx)
         (λ v hv. part-in _ _ (due context s b os x) (due-in os _ _ hx) (λ _ h. app∈ (val∈ hv) h)
-        (λ w hw. count-in b AppApp tt (val∈ (apply-in nodes B T v w hv hw))))
+        (λ w hw. appApp-in T b (apply v w) (apply-in nodes B T v w hv hw)))
     due-in os _ _ (attr∈ {n = n} {x = x} {a = a} ha hn hx) =
         part-in _ _ (due context s b os n) (due-in os _ _ hn) (λ _ h. attr∈ ha h hx)
         (λ v hv. part-in _ _ (due context s b os x) (due-in os _ _ hx) (λ _ h. attr∈ ha (val∈ hv) h)

@@ -10,10 +10,11 @@ use native.Mathlib.Numerals.{add-one}
 use native.Mathlib.Omega.{arith}
 use borrow.Author.Tests.{ltb-true, ltb-false}
 use lib.Dec.{ltb, eqb}
-use Rattle.saiga.specs.Values.{Value, null, truth}
+use Rattle.saiga.specs.Values.{Value, null, truth, Applied, gives, overflows, apply}
 use Rattle.saiga.specs.Expressions.{Expr, literal, if, application, attribute, this, parameter}
 use Rattle.saiga.specs.Terms.{Occurrence, val, cond, app, attr, form, put}
-use Rattle.saiga.specs.Caching.{Entry, Running, kept, keptOr, write, Due, finished, counts, writes, halts, Counted, AttrApp, Reason, null-node, spent, depth, duePart, count, tooDeep, attrApp, due, State, with-value, by, Ended, dueAt, run}
+use Rattle.saiga.specs.Plain.{on-null, by-overflow}
+use Rattle.saiga.specs.Caching.{Entry, Running, kept, keptOr, write, Due, finished, counts, writes, halts, Counted, AppApp, AttrApp, Reason, as-plain, spent, depth, duePart, count, appApp, tooDeep, attrApp, due, State, with-value, by, Ended, dueAt, run}
 use Rattle.saiga.specs.Tally.{trace}
 use Rattle.saiga.specs.Runs.{Runs, ends-value, ends-by, goes-counted, goes-writing, Traces, none-value, none-by, one-counted, past-writing}
 
@@ -29,7 +30,7 @@ forms (form o e) = suc (forms e)
 
 -- The run stops for its budget only where none is left.
 abbrev Spends : Bool → Reason → Type 0
-Spends b null-node = Unit {0}
+Spends b (as-plain why) = Unit {0}
 Spends b spent = b ≡ false
 Spends b depth = Unit {0}
 
@@ -59,6 +60,11 @@ falls-count : (b : Bool) {n : ℕ} (r : Counted) (t : Running) → forms t ≤ s
 unfolding count
 falls-count true r t h = falls-counts refl h
 falls-count false r t h = falls-halts {r = spent} refl
+
+falls-app : (b : Bool) {n : ℕ} (a : Applied) → Falls b n (appApp b a)
+unfolding appApp forms
+falls-app b (gives v) = falls-count b AppApp (val v) zero-le
+falls-app b overflows = falls-halts {r = as-plain by-overflow} tt
 
 -- what a sheet writes has no form
 pub forms-put : (n : ℕ) (v : Value) (e : Expr) → forms (put n v e) ≡ 0
@@ -97,8 +103,8 @@ module _ (context : ℕ → ℕ → Expr) (s : List Entry) (b : Bool) where
       t = form o (keptOr (kept s o) (put (o .node) (o .parameter) (context (o .node) (o .attribute))))
 
       go : (z c : Bool) → b ≡ c → (d : Bool)
-          → Falls b n (Bool.cond z (halts null-node) (Bool.cond c (Bool.cond d (halts depth) (counts (AttrApp (o .attribute)) t)) (halts spent)))
-      go true c e d = falls-halts {r = null-node} tt
+          → Falls b n (Bool.cond z (halts (as-plain on-null)) (Bool.cond c (Bool.cond d (halts depth) (counts (AttrApp (o .attribute)) t)) (halts spent)))
+      go true c e d = falls-halts {r = as-plain on-null} tt
       go false true e true = falls-halts {r = depth} tt
       go false true e false =
           let p = forms-kept (kept s o) (put (o .node) (o .parameter) (context (o .node) (o .attribute))) (forms-put (o .node) (o .parameter) (context (o .node) (o .attribute))) in
@@ -114,7 +120,7 @@ module _ (context : ℕ → ℕ → Expr) (s : List Entry) (b : Bool) where
   falls os (app f x) =
       falls-part (forms x) (λ f′. app f′ x) _ (λ f′. refl) (falls os f)
       (λ v. falls-mono (left-part (forms f) (forms x))
-      (falls-part 0 (λ x′. app (val v) x′) _ (λ x′. no-more (forms x′)) (falls os x) (λ w. falls-count b _ _ zero-le)))
+      (falls-part 0 (λ x′. app (val v) x′) _ (λ x′. no-more (forms x′)) (falls os x) (λ w. falls-app b (apply v w))))
   falls os (attr n a x) =
       falls-part (forms x) (λ n′. attr n′ a x) _ (λ n′. refl) (falls os n)
       (λ v. falls-mono (left-part (forms n) (forms x))

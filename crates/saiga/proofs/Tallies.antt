@@ -22,7 +22,7 @@ use Rattle.saiga.proofs.Preservation.{put-in, RuleIn, traces-in}
 use Rattle.saiga.proofs.Entries.{store-in}
 use Rattle.saiga.proofs.RunEnds.{after}
 use Rattle.saiga.proofs.Calls.{question-runs, question-traces, passed, ask-runs, ask-refuses, question-in}
-use Rattle.saiga.proofs.Tally.{rowOf, HasRow, no-more, tally-length, tally-row, tally-adds}
+use Rattle.saiga.proofs.Tally.{rowOf, HasRow, among-more, no-more, tally-length, tally-row, tally-adds}
 
 -- the steps of a run are those of its trace
 traced-steps : (context : ℕ → ℕ → Expr) (capacity budget : ℕ) {st : State} {end : Ended} {l : List Counted}
@@ -44,21 +44,15 @@ steps-field end = go (end .ending) refl
 -- ---- Declared attributes
 
 module _ (sig : List Attribute) (few : length sig ≤ attributeLimit) where
-  pub has-row : (r : Counted) → RuleIn sig r → HasRow r
-  has-row CondTrue h = tt
-  has-row CondFalse h = tt
-  has-row AppApp h = tt
-  has-row (AttrApp a) h = omega arith
-
   have-rows : {l : List Counted} → All (RuleIn sig) l → All HasRow l
   have-rows all-none = all-none
-  have-rows (all-cons {x = r} h t) = all-cons (has-row r h) (have-rows t)
+  have-rows (all-cons {x = r} h t) = all-cons (among-more few r h) (have-rows t)
 
   -- no step counts in another attribute's row
   none-undeclared : (a : ℕ) → length sig ≤ a → a < attributeLimit → {l : List Counted} → All (RuleIn sig) l → stepsIn a l ≡ 0
   unfolding stepsIn rowOf
   none-undeclared a past inside all-none = refl
-  none-undeclared a past inside (all-cons {x = r} {l = l} h t) = no-more a r (has-row r h) (other r h) l ∙ none-undeclared a past inside t
+  none-undeclared a past inside (all-cons {x = r} {l = l} h t) = no-more a r (among-more few r h) (other r h) l ∙ none-undeclared a past inside t
     where
       other : (r : Counted) → RuleIn sig r → a ≡ rowOf r → ⊥
       other CondTrue h e = omega arith

@@ -23,12 +23,22 @@ rowOf CondFalse = conditionsRow
 rowOf AppApp = applicationsRow
 rowOf (AttrApp a) = a
 
+-- AttrApp is of one of the first n attributes.
+abbrev pub AmongFirst : ℕ → Counted → Type 0
+AmongFirst n CondTrue = Unit {0}
+AmongFirst n CondFalse = Unit {0}
+AmongFirst n AppApp = Unit {0}
+AmongFirst n (AttrApp a) = a < n
+
+pub among-more : {m n : ℕ} → m ≤ n → (r : Counted) → AmongFirst m r → AmongFirst n r
+among-more le CondTrue h = tt
+among-more le CondFalse h = tt
+among-more le AppApp h = tt
+among-more le (AttrApp a) h = omega arith
+
 -- An attribute's row is before the others.
 abbrev pub HasRow : Counted → Type 0
-HasRow CondTrue = Unit {0}
-HasRow CondFalse = Unit {0}
-HasRow AppApp = Unit {0}
-HasRow (AttrApp a) = a < attributeLimit
+HasRow r = AmongFirst attributeLimit r
 
 pub row-inside : (r : Counted) → HasRow r → rowOf r < tallyRows
 unfolding rowOf

@@ -12,7 +12,8 @@ use Rattle.saiga.specs.Expressions.{Expr, Whole, no-expression, expressi
 use Rattle.saiga.specs.Types.{infer}
 use Rattle.saiga.specs.Sheet.{Sheet, Checked, refused_at-place_, accepted, checkSheet, questionScope, context}
 use Rattle.saiga.specs.Terms.{Term, put}
-use Rattle.saiga.specs.Caching.{Entry, Counted, Reason, null-node, spent, depth, State, with-value, by, Ended, run}
+use Rattle.saiga.specs.Plain.{on-null, by-overflow}
+use Rattle.saiga.specs.Caching.{Entry, Counted, Reason, as-plain, spent, depth, State, with-value, by, Ended, run}
 use Rattle.saiga.specs.Tally.{trace, tally}
 use Rattle.saiga.specs.Store.{capacity, checkStore, leftStore}
 
@@ -76,7 +77,8 @@ unfoldable pub asked : {F : Type 0} → Expr → Term F
 asked e = put 0 unit e
 
 unfoldable pub reasonNumber : Reason → ℕ
-reasonNumber null-node = 14
+reasonNumber (as-plain on-null) = 14
+reasonNumber (as-plain by-overflow) = 17
 reasonNumber spent = 15
 reasonNumber depth = 16
 
@@ -89,7 +91,8 @@ endedAnswer end =
       | by reason ↦ record { number = reasonNumber reason; place = 0; type = 0; value = pos 0; steps = end .steps; kept = kept }
     ]
 
--- "Stops 14 to 16 bring the tally so far" (F-2): `taken` are the rules of the steps that were counted.
+-- "Stops 14 to 16 bring the tally so far" (F-2), and 17 "leaves store and tally as 14 does" (F-4): `taken` are the rules of the steps that were
+-- counted.
 unfoldable pub outcome : Lent → Ended → List Counted → Outcome
 outcome m end taken =
     record { answer = endedAnswer end; tally = tally taken; store = leftStore (m .store) (m .kept) (end .entries) }

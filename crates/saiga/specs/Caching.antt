@@ -7,9 +7,10 @@ use Prim.Native.Nat.{ℕ, zero, suc}
 use lib.Dec.{eqb, ltb, leb}
 use lib.ListN.{length}
 use Rattle.saiga.specs.Limits.{depthLimit}
-use Rattle.saiga.specs.Values.{Value, null, truth, nodeOf, apply, sameValue}
+use Rattle.saiga.specs.Values.{Value, null, truth, nodeOf, Applied, gives, overflows, apply, sameValue}
 use Rattle.saiga.specs.Expressions.{Expr}
 use Rattle.saiga.specs.Terms.{Occurrence, Term, val, cond, app, attr, form, put}
+use Rattle.saiga.specs.Plain.{NoValue, on-null, by-overflow}
 
 -- ---- The store
 
@@ -45,9 +46,10 @@ pub data Counted : Type 0 where
   CondTrue CondFalse AppApp : Counted
   AttrApp : ℕ → Counted
 
--- The stops of the run: 14 null, 15 spent, 16 depth.
+-- The stops of the run: where plain Saiga ends too, 14 on null and 17 by overflow; and 15 spent, 16 depth, which are the limits'.
 pub data Reason : Type 0 where
-  null-node spent depth : Reason
+  as-plain : NoValue → Reason
+  spent depth : Reason
 
 -- What is due at an expression: it is a value; a counted step, by its rule, leads to another; CacheWrite of an entry, not counted,
 -- leads to another; or the run stops.
@@ -72,6 +74,11 @@ unfoldable pub condRule : Bool → Counted
 condRule true = CondTrue
 condRule false = CondFalse
 
+-- AppApp: 17, then 15. 17 overflow is "tested like 14 before 15" (F-4 of document 02), also with the whole budget used.
+unfoldable pub appApp : Bool → Applied → Due
+appApp has-budget (gives v) = count has-budget AppApp (val v)
+appApp has-budget overflows = halts (as-plain by-overflow)
+
 -- "AttrApp takes a kept value before σ."
 unfoldable pub keptOr : Option Value → Running → Running
 keptOr none t = t
@@ -83,11 +90,11 @@ unfoldable pub tooDeep : List Entry → List Occurrence → Occurrence → Bool
 tooDeep s open-forms o = Bool.not (isKept (kept s o)) && leb depthLimit (length open-forms)
 
 module _ (context : ℕ → ℕ → Expr) (s : List Entry) (has-budget : Bool) where
-  -- "Where several of 14 to 16 are due, the smallest": null, then spent, then depth. A kept value has its form too, the 65th inside 64 open
+  -- AttrApp: 14, then 15, then 16. "Where several of 14 to 16 are due, the smallest". A kept value has its form too, the 65th inside 64 open
   -- ones; CacheWrite is due there at once and ends it.
   unfoldable pub attrApp : List Occurrence → Occurrence → Due
   attrApp open-forms o =
-      Bool.cond (eqb (o .node) null) (halts null-node)
+      Bool.cond (eqb (o .node) null) (halts (as-plain on-null))
       (Bool.cond has-budget
       (Bool.cond (tooDeep s open-forms o) (halts depth)
       (counts (AttrApp (o .attribute)) (form o (keptOr (kept s o) (put (o .node) (o .parameter) (context (o .node) (o .attribute)))))))
@@ -100,7 +107,7 @@ module _ (context : ℕ → ℕ → Expr) (s : List Entry) (has-budget : Bool) w
       duePart (λ c′. cond c′ t e) (λ v. count has-budget (condRule (truth v)) (Bool.cond (truth v) t e)) (due os c)
   due os (app f x) =
       duePart (λ f′. app f′ x)
-      (λ v. duePart (λ x′. app (val v) x′) (λ w. count has-budget AppApp (val (apply v w))) (due os x))
+      (λ v. duePart (λ x′. app (val v) x′) (λ w. appApp has-budget (apply v w)) (due os x))
       (due os f)
   due os (attr n a x) =
       duePart (λ n′. attr n′ a x)

@@ -1,5 +1,5 @@
 -- What is kept can never change an answer: the engine's calls against plain Saiga, over every list of questions
--- (document 01, "Contracts": "Demand 3 is a single claim over every list").
+-- (document 01, "Contracts": "Demand 3 is a single claim over every list"; F-4 of document 02: "three endings, value, null and overflow").
 use mathlib.Core.List.{List, _∷_, _++_}
 use mathlib.Core.Logic.{_⊎_}
 use mathlib.Core.Path.{_≡_}
@@ -9,27 +9,29 @@ use Rattle.saiga.specs.Limits.{entryWidth, entryLimit, budgetLimit}
 use Rattle.saiga.specs.Values.{Value, typeCode, decimal}
 use Rattle.saiga.specs.Expressions.{Expr}
 use Rattle.saiga.specs.Sheet.{Sheet, accepted, checkSheet, context}
-use Rattle.saiga.specs.Plain.{EndsWithValue, EndsOnNull, RunsForEver}
+use Rattle.saiga.specs.Plain.{NoValue, on-null, by-overflow, EndsWithValue, EndsWithout, RunsForEver}
 use Rattle.saiga.specs.Ask.{Lent, Call, asking, Answer, Outcome, asked, checkQuestion, ask}
 use Rattle.saiga.specs.Calls.{leaves, afterCalls, answers}
 
--- "It ends with a value or on null, and n is the count then": the endings and the n of plain Saiga, on an accepted sheet and question.
+-- "It ends with a value or on null, and n is the count then", or by overflow: the endings and the n of plain Saiga, on an accepted sheet and
+-- question.
 pub data PlainEnding : Type 0 where
   a-value : Value → PlainEnding
-  on-null-node : PlainEnding
+  no-value : NoValue → PlainEnding
 
 unfoldable pub PlainEnds : Sheet → Expr → PlainEnding → ℕ → Type 0
 PlainEnds s e (a-value v) n = EndsWithValue (context s) (asked e) v n
-PlainEnds s e on-null-node n = EndsOnNull (context s) (asked e) n
+PlainEnds s e (no-value why) n = EndsWithout (context s) why (asked e) n
 
--- "The ending of a value is number 0 with that type and value, that on null is number 14."
+-- "The ending of a value is number 0 with that type and value, that on null is number 14"; that by overflow is 17.
 unfoldable pub Brings : Answer → PlainEnding → Type 0
 Brings r (a-value v) = (r .number ≡ 0) × (r .type ≡ typeCode v) × (r .value ≡ decimal v)
-Brings r on-null-node = r .number ≡ 14
+Brings r (no-value on-null) = r .number ≡ 14
+Brings r (no-value by-overflow) = r .number ≡ 17
 
 -- an answer with one of these endings
 unfoldable pub HasEnding : Answer → Type 0
-HasEnding r = (r .number ≡ 0) ⊎ (r .number ≡ 14)
+HasEnding r = (r .number ≡ 0) ⊎ (r .number ≡ 14) ⊎ (r .number ≡ 17)
 
 -- "The first is lent a store of any capacity from 0 to 1,024, any bytes, kept 0".
 pub record First (capacity : ℕ) (m : Lent) : Type 0 where
@@ -50,8 +52,8 @@ pub record OfSheet (sheet : List ℕ) (s : Sheet) : Type 0 where
       let o = outcome-at sheet first before question budget in
       answers sheet first (before ++ asking question budget ∷ after)
       ≡ answers sheet first before ++ o .answer ∷ answers sheet (leaves o) after
-  -- Complete: if plain Saiga ends with a value or on null in n steps, every permitted budget of n or more, put there, brings that
-  -- ending in at most n steps, or stop 16.
+  -- Complete: if plain Saiga ends with a value, on null or by overflow in n steps, every permitted budget of n or more, put there, brings
+  -- that ending in at most n steps, or stop 16.
   pub complete :
       (capacity : ℕ) (first : Lent) → First capacity first → (before : List Call) (question : List ℕ) (e : Expr) →
       checkQuestion s question ≡ accepted e → (ending : PlainEnding) (n : ℕ) → PlainEnds s e ending n →

@@ -9,6 +9,7 @@ pub mod Terms
 pub mod Plain
 pub mod Caching
 pub mod Depth
+pub mod Overflow
 pub mod Tally
 pub mod Runs
 pub mod Sound
@@ -25,3 +26,4 @@ pub mod TableStops
 pub mod TableStores
 pub mod TableTypes
 pub mod TableTally
+pub mod TableOverflow

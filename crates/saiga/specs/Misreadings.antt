@@ -1,11 +1,12 @@
--- What table L does not tell apart: document 01's "Likely misreadings" and others, the functions at their ends, and the limits of the
--- run. Each answer is worked out from the document. TableStops.antt has the stops before the run, TableStores.antt the store's bytes.
+-- What table L does not tell apart: document 01's "Likely misreadings" and others, the functions, and the limits of the run. Each answer
+-- is worked out from the document. TableStops.antt has the stops before the run, TableOverflow.antt the sums that do not fit,
+-- TableStores.antt the store's bytes.
 use mathlib.Core.List.{List, [], _∷_, _++_}
 use mathlib.Core.Path.{_≡_}
 use Prim.Native.Nat.{ℕ}
 use lib.IntN.{pos, negsuc}
 use Rattle.saiga.specs.Sheet.{context}
-use Rattle.saiga.specs.Plain.{EndsOnNull}
+use Rattle.saiga.specs.Plain.{on-null, EndsWithout}
 use Rattle.saiga.specs.Ask.{asking, Answer, asked}
 use Rattle.saiga.specs.TableL.{sheetL, Row, row, bring, brought, Plainly}
 use Rattle.saiga.specs.Rows.{unit-literal, whole, lowest-int, highest-int, minus-one, true-literal, false-literal, null-literal, node-literal, one, two, if-then-else, attribute-of, this-node, the-parameter, rule-for, asks, ends-with, an-int, a-bool, stop}
@@ -193,12 +194,9 @@ functions =
     computes (two 1 (whole 0) minus-one) (a-bool 0 2) ∷
     computes (one 3 true-literal) (a-bool 0 1) ∷
     computes (one 3 false-literal) (a-bool 1 1) ∷
-    -- subtract, and both ends of Int
+    -- add and subtract; TableOverflow.antt has the ends of Int
     computes (two 5 (whole 5) (whole 3)) (an-int (pos 2) 2 0) ∷
-    computes (two 5 lowest-int (whole 1)) (an-int (negsuc 2147483647) 2 0) ∷
     computes (two 5 (two 4 lowest-int (whole 1)) (whole 1)) (an-int (negsuc 2147483647) 4 0) ∷
-    computes (two 4 lowest-int minus-one) (an-int (negsuc 2147483647) 2 0) ∷
-    computes (two 5 highest-int minus-one) (an-int (pos 2147483647) 2 0) ∷
     computes (two 4 highest-int minus-one) (an-int (pos 2147483646) 2 0) ∷
     -- equal on Node: "null equals only null"
     computes (two 2 null-literal null-literal) (a-bool 1 2) ∷
@@ -236,11 +234,11 @@ unfoldable pub PlainParts : Type 0
 PlainParts =
     -- "the node part is stepped to a value, then the parameter": up of null ends all after one step, node 0's up, and the parameter takes none.
     Plainly sheetL (own (up (up (node-literal 0) unit-literal) unit-literal) (a-step-to unit-literal))
-    (λ s e. EndsOnNull (context s) (asked e) 1)
+    (λ s e. EndsWithout (context s) on-null (asked e) 1)
     -- "On null" comes after both: the node part is null, and the parameter takes its step first.
-    × Plainly sheetL (own (up (node-literal 0) unit-literal) (a-step-to unit-literal)) (λ s e. EndsOnNull (context s) (asked e) 2)
+    × Plainly sheetL (own (up (node-literal 0) unit-literal) (a-step-to unit-literal)) (λ s e. EndsWithout (context s) on-null (asked e) 2)
     -- "the left part is stepped to a value, then the right": own of null ends all before the right part takes its step.
-    × Plainly sheetL (two 4 (own null-literal unit-literal) (a-step-to (whole 1))) (λ s e. EndsOnNull (context s) (asked e) 0)
+    × Plainly sheetL (two 4 (own null-literal unit-literal) (a-step-to (whole 1))) (λ s e. EndsWithout (context s) on-null (asked e) 0)
 
 -- The tables, as one statement.
 unfoldable pub Misreadings : Type 0

@@ -47,6 +47,7 @@ pub data RuleDue (s : Sheet) {F : Type 0} : Term F → Type 0 where
   cond-bool : {b : Bool} {t e : Term F} → RuleDue s (cond (val (bool b)) t e)
   app-left : {f x : Term F} → RuleDue s f → RuleDue s (app f x)
   app-right : {f : Value} {x : Term F} → RuleDue s x → RuleDue s (app (val f) x)
+  -- AppApp, where the run ends if a sum does not fit
   app-app : {B : Base} {f x : Value} → Takes B f → Canonical B x → RuleDue s (app (val f) (val x))
   attr-left : {n x : Term F} {a : ℕ} → RuleDue s n → RuleDue s (attr n a x)
   attr-right : {n : Value} {a : ℕ} {x : Term F} → RuleDue s x → RuleDue s (attr (val n) a x)

@@ -8,7 +8,7 @@ use lib.IntN.{ℤ, pos}
 use Rattle.saiga.specs.Values.{Value, unit, bool, int, node}
 use Rattle.saiga.specs.Expressions.{Expr}
 use Rattle.saiga.specs.Sheet.{Sheet, accepted, checkSheet, context}
-use Rattle.saiga.specs.Plain.{EndsWithValue, EndsOnNull, RunsForEver}
+use Rattle.saiga.specs.Plain.{on-null, EndsWithValue, EndsWithout, RunsForEver}
 use Rattle.saiga.specs.Caching.{Entry}
 use Rattle.saiga.specs.Store.{entriesBytes}
 use Rattle.saiga.specs.Ask.{Call, asking, Answer, checkQuestion, asked}
@@ -103,8 +103,8 @@ tableL =
     -- L12: "an attribute defined as itself: budget 65 gives 16 after 64 steps; budget 64 gives 15"
     row sheetL12 1024 (asking itself 65 ∷ []) (answer 16 0 0 (pos 0) 64 0 ∷ []) ∷
     row sheetL12 1024 (asking itself 64 ∷ []) (answer 15 0 0 (pos 0) 64 0 ∷ []) ∷
-    -- L13: "add(2,147,483,647)(1) is 2,147,483,647"
-    row sheetL 1024 (asking overTheEnd 1000000 ∷ []) (answer 0 0 2 (pos 2147483647) 2 0 ∷ []) ∷
+    -- L13: add(2,147,483,647)(1) "now stops after 1 step" (F-4 of document 02)
+    row sheetL 1024 (asking overTheEnd 1000000 ∷ []) (answer 17 0 0 (pos 0) 1 0 ∷ []) ∷
     -- "Empty sheet: 2 at 0. The single byte 0x5A is accepted."
     row [] 1024 (asking five 0 ∷ []) (answer 2 0 0 (pos 0) 0 0 ∷ []) ∷
     row (0x5A ∷ []) 1024 (asking five 0 ∷ []) (answer 0 0 2 (pos 5) 0 0 ∷ []) ∷
@@ -146,5 +146,5 @@ unfoldable pub PlainL : Type 0
 PlainL =
     Plainly sheetL D (λ s e. EndsWithValue (context s) (asked e) (int (pos 700)) 8)
     × Plainly sheetL equalDD (λ s e. EndsWithValue (context s) (asked e) (bool true) 18)
-    × Plainly sheetL ownOfUp (λ s e. EndsOnNull (context s) (asked e) 1)
+    × Plainly sheetL ownOfUp (λ s e. EndsWithout (context s) on-null (asked e) 1)
     × Plainly sheetL12 itself (λ s e. RunsForEver (context s) (asked e))

@@ -62,8 +62,8 @@ tallies-L =
     -- L12
     asks sheetL12 1024 itself 65 (first-three 64 0 0 0 0) ∷
     asks sheetL12 1024 itself 64 (first-three 64 0 0 0 0) ∷
-    -- L13
-    asks sheetL 1024 overTheEnd 1000000 (first-three 0 0 0 2 0) ∷
+    -- L13: the first application
+    asks sheetL 1024 overTheEnd 1000000 (first-three 0 0 0 1 0) ∷
     []
 
 -- ---- Others
@@ -94,6 +94,9 @@ others =
     asks sheetL 1 (attribute-of 1 null-literal (if-then-else true-literal unit-literal unit-literal)) 1000000 (first-three 0 0 0 0 1) ∷
     asks (0x5A ∷ []) 0 (two 4 (whole 1) (whole 2)) 1 (first-three 0 0 0 1 0) ∷
     asks (0x5A ∷ []) 0 (if-then-else (one 3 true-literal) (whole 1) (whole 2)) 1 (first-three 0 0 0 1 0) ∷
+    -- 17 "leaves .. tally as 14 does" (F-4): after add(own of 2)(1), add(that) with a sum that does not fit.
+    asks sheetL 1 (two 4 (two 4 (attribute-of 1 (node-literal 2) unit-literal) (whole 1)) overTheEnd) 1000000 (first-three 0 1 0 4 0) ∷
+    asks sheetL 1 (two 4 (two 4 (attribute-of 1 (node-literal 2) unit-literal) (whole 1)) overTheEnd) 5 (first-three 0 1 0 4 0) ∷
     -- "1 to 13 bring zeros": a sheet without an end, a store too long, a budget too large after a question that kept figures, a question of no
     -- form, and one of a function's type.
     asks [] 0 five 0 no-steps ∷

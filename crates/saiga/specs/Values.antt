@@ -11,6 +11,10 @@ pub use Rattle.saiga.specs.declared.Function.{Function}
 pub use Rattle.saiga.specs.declared.Function.the-variants.{Le as le, EqualInt as equalInt, EqualNode as equalNode, Not as negation, Add as add, Subtract as subtract}
 pub use Rattle.saiga.specs.declared.Holding.{Holding}
 pub use Rattle.saiga.specs.declared.Holding.the-variants.{Le as leOf, EqualInt as equalIntOf, EqualNode as equalNodeOf, Add as addTo, Subtract as subtractFrom}
+pub use Rattle.saiga.specs.declared.Sum.{Sum}
+pub use Rattle.saiga.specs.declared.Sum.the-variants.{Fits as fits, Overflow as beyond}
+pub use Rattle.saiga.specs.declared.Applied.{Applied}
+pub use Rattle.saiga.specs.declared.Applied.the-variants.{Gives as gives, Overflow as overflows}
 
 -- ---- Types
 
@@ -81,9 +85,9 @@ lowest = negsuc 2147483647
 abbrev pub highest : ℤ
 highest = pos 2147483647
 
--- "A sum or difference beyond either end of Int is held at that end."
-unfoldable pub held : ℤ → ℤ
-held z = cond (ltZ z lowest) lowest (cond (ltZ highest z) highest z)
+-- "An add or subtract whose exact result lies outside Int has no value" (document 02, F-4).
+unfoldable pub exact : ℤ → Sum
+exact z = cond (ltZ z lowest || ltZ highest z) beyond (fits z)
 
 -- The Bool, the Int and the Node of a value. Accepted questions never meet the other cases (Safety.antt).
 unfoldable pub truth : Value → Bool
@@ -125,20 +129,25 @@ applyFunction negation v = bool (not (truth v))
 applyFunction add v = holding (addTo (number v))
 applyFunction subtract v = holding (subtractFrom (number v))
 
-unfoldable pub applyHolding : Holding → Value → Value
-applyHolding (leOf x) v = bool (leZ x (number v))
-applyHolding (equalIntOf x) v = bool (equalZ x (number v))
-applyHolding (equalNodeOf x) v = bool (eqb x (nodeOf v))
-applyHolding (addTo x) v = int (held (x +ℤ number v))
-applyHolding (subtractFrom x) v = int (held (x -ℤ number v))
+-- the Int of a sum that has one
+unfoldable pub summed : Sum → Applied
+summed (fits z) = gives (int z)
+summed beyond = overflows
 
--- the functional layer of 001's AppApp
-unfoldable pub apply : Value → Value → Value
-apply unit v = unit
-apply (bool b) v = unit
-apply (int z) v = unit
-apply (node n) v = unit
-apply (function f) v = applyFunction f v
+unfoldable pub applyHolding : Holding → Value → Applied
+applyHolding (leOf x) v = gives (bool (leZ x (number v)))
+applyHolding (equalIntOf x) v = gives (bool (equalZ x (number v)))
+applyHolding (equalNodeOf x) v = gives (bool (eqb x (nodeOf v)))
+applyHolding (addTo x) v = summed (exact (x +ℤ number v))
+applyHolding (subtractFrom x) v = summed (exact (x -ℤ number v))
+
+-- The functional layer of 001's AppApp, which gives a value or overflow. Only add and subtract with both arguments overflow.
+unfoldable pub apply : Value → Value → Applied
+apply unit v = gives unit
+apply (bool b) v = gives unit
+apply (int z) v = gives unit
+apply (node n) v = gives unit
+apply (function f) v = gives (applyFunction f v)
 apply (holding h) v = applyHolding h v
 
 -- ---- The four-byte form

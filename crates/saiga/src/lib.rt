@@ -34,6 +34,18 @@ pub enum Value {
     Holding(Holding),
 }
 
+// A sum or a difference: an Int, or beyond its ends.
+pub enum Sum {
+    Fits(i32),
+    Overflow,
+}
+
+// What a function gives of an argument: a value, or overflow.
+pub enum Applied {
+    Gives(Value),
+    Overflow,
+}
+
 // An entry of the store in numbers: its parameter and its value in their four-byte forms, and the code of the value's type.
 pub struct Fields {
     pub node: u32,

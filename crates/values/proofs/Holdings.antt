@@ -4,9 +4,12 @@ use Prim.Native.Nat.{ℕ, _^_, _<_}
 use lib.Dec.{eqb}
 use lib.IntN.{ℤ, _+ℤ_, _-ℤ_}
 use lib.Signed.{mag, leZ}
-use mir.Syntax.{w32, w64}
+use mir.Syntax.{w32}
 use mir.Val.{ofZ, toZ}
-use Rattle.saiga.specs.Values.{number, nodeOf, held, applyHolding}
+use Rattle.saiga.specs.Values.{number, nodeOf, exact, summed, applyHolding}
+use Rattle.saiga.specs.declared.Sum.{Sum}
+use Rattle.saiga.specs.declared.Sum.the-variants.{Fits as fits, Overflow as beyond}
+use Rattle.saiga.specs.declared.Applied.the-variants.{Gives as gives, Overflow as overflows}
 use Rattle.saiga.specs.declared.Value.{Value}
 use Rattle.saiga.specs.declared.Value.the-variants.{Bool as bool, Int as int}
 use Rattle.saiga.specs.declared.Holding.{Holding}
@@ -14,25 +17,34 @@ use Rattle.saiga.specs.declared.Holding.the-variants.{Le as leOf, EqualInt as e
 use Rattle.values.proofs.Integers.{equal-bits, read-back}
 
 module _ (h : Holding) (x : Value) (y n : ℤ) (p : mag y < 2 ^ 31) (q : mag n < 2 ^ 31) (second : n ≡ number x) where
-  pub le-answers : h ≡ leOf y → bool (leZ (toZ w32 (ofZ w32 y)) (toZ w32 (ofZ w32 n))) ≡ applyHolding h x
+  pub le-answers : h ≡ leOf y → gives (bool (leZ (toZ w32 (ofZ w32 y)) (toZ w32 (ofZ w32 n)))) ≡ applyHolding h x
   unfolding applyHolding
   le-answers is = rw (is, read-back w32 y p, read-back w32 n q, second)
 
-  pub equal-answers : h ≡ equalIntOf y → bool (eqb (ofZ w32 y) (ofZ w32 n)) ≡ applyHolding h x
+  pub equal-answers : h ≡ equalIntOf y → gives (bool (eqb (ofZ w32 y) (ofZ w32 n))) ≡ applyHolding h x
   unfolding applyHolding
   equal-answers is = rw (is, equal-bits y n p q, second)
 
-  -- r is the result z, held at the ends of Int.
-  module _ (z r : ℤ) (fits : mag z < 2 ^ 63) (small : mag r < 2 ^ 31) (ends : r ≡ held (toZ w64 (ofZ w64 z))) where
-    pub add-answers : h ≡ addTo y → z ≡ toZ w32 (ofZ w32 y) +ℤ toZ w32 (ofZ w32 n) → int (toZ w32 (ofZ w32 r)) ≡ applyHolding h x
+  -- what add and subtract answered
+  module _ (sum : Sum) where
+    pub add-answers : h ≡ addTo y → sum ≡ exact (toZ w32 (ofZ w32 y) +ℤ toZ w32 (ofZ w32 n)) → summed sum ≡ applyHolding h x
     unfolding applyHolding
-    add-answers is sum = rw (is, read-back w32 r small, ends, read-back w64 z fits, sum, read-back w32 y p, read-back w32 n q, second)
+    add-answers is e = rw (is, e, read-back w32 y p, read-back w32 n q, second)
 
-    pub subtract-answers : h ≡ subtractFrom y → z ≡ toZ w32 (ofZ w32 y) -ℤ toZ w32 (ofZ w32 n) → int (toZ w32 (ofZ w32 r)) ≡ applyHolding h x
+    pub subtract-answers : h ≡ subtractFrom y → sum ≡ exact (toZ w32 (ofZ w32 y) -ℤ toZ w32 (ofZ w32 n)) → summed sum ≡ applyHolding h x
     unfolding applyHolding
-    subtract-answers is difference = rw (is, read-back w32 r small, ends, read-back w64 z fits, difference, read-back w32 y p, read-back w32 n q, second)
+    subtract-answers is e = rw (is, e, read-back w32 y p, read-back w32 n q, second)
+
+-- An answer taken apart.
+pub when-beyond : {sum : Sum} → sum ≡ beyond → overflows ≡ summed sum
+unfolding summed
+when-beyond is = rw is
+
+pub when-fits : {sum : Sum} {z : ℤ} → mag z < 2 ^ 31 → sum ≡ fits z → gives (int (toZ w32 (ofZ w32 z))) ≡ summed sum
+unfolding summed
+when-fits {z} small is = rw (is, read-back w32 z small)
 
 -- The one that holds a Node.
-pub node-answers : (h : Holding) (x : Value) (y n : ℕ) → h ≡ equalNodeOf y → n ≡ nodeOf x → bool (eqb y n) ≡ applyHolding h x
+pub node-answers : (h : Holding) (x : Value) (y n : ℕ) → h ≡ equalNodeOf y → n ≡ nodeOf x → gives (bool (eqb y n)) ≡ applyHolding h x
 unfolding applyHolding
 node-answers h x y n is second = rw (is, second)

@@ -12,7 +12,8 @@ use mir.Syntax.{Width, w32, w64}
 use mir.Val.{SFits, hbits, ofZ, toZ}
 use mir.Facts.{toZ-ofZ}
 use borrow.Author.Tests.{ltb-true, ltb-false, eqb-true, eqb-false, eq-eqb, ne-eqb, le-ltb}
-use Rattle.saiga.specs.Values.{lowest, highest, held, equalZ, unsigned}
+use Rattle.saiga.specs.Values.{lowest, highest, exact, equalZ, unsigned}
+use Rattle.saiga.specs.declared.Sum.the-variants.{Fits, Overflow as beyond}
 
 -- ---- Bits
 
@@ -92,24 +93,24 @@ within-fits : (z : ℤ) → ltZ z lowest ≡ false → ltZ highest z ≡ false �
 within-fits (pos n) p q = record { sfits = omega (arith, ltb-false 2147483647 n q) }
 within-fits (negsuc n) p q = record { sfits = omega (arith, ltb-false 2147483647 n p) }
 
--- The tests of the bits of z say at which end it is held, if at any.
+-- The tests of the bits of z say beyond which end it lies, if beyond any.
 module _ (z : ℤ) (fits : SFits w64 z) where
-  pub held-lowest : ltZ (toZ w64 (ofZ w64 z)) lowest ≡ true → lowest ≡ held z
-  unfolding held
-  held-lowest t = rw (rw (toZ-ofZ fits) at t)
+  pub too-low : ltZ (toZ w64 (ofZ w64 z)) lowest ≡ true → beyond ≡ exact z
+  unfolding exact
+  too-low t = rw (rw (toZ-ofZ fits) at t)
 
   module _ (above : ltZ (toZ w64 (ofZ w64 z)) lowest ≡ false) where
-    pub held-highest : ltZ highest (toZ w64 (ofZ w64 z)) ≡ true → highest ≡ held z
-    unfolding held
-    held-highest t = rw (rw (toZ-ofZ fits) at above, rw (toZ-ofZ fits) at t)
+    pub too-high : ltZ highest (toZ w64 (ofZ w64 z)) ≡ true → beyond ≡ exact z
+    unfolding exact
+    too-high t = rw (rw (toZ-ofZ fits) at above, rw (toZ-ofZ fits) at t)
 
     module _ (below : ltZ highest (toZ w64 (ofZ w64 z)) ≡ false) where
-      pub held-fits : SFits w32 (toZ w64 (ofZ w64 z))
-      held-fits = within-fits _ above below
+      pub an-int : SFits w32 (toZ w64 (ofZ w64 z))
+      an-int = within-fits _ above below
 
-      pub held-within : toZ w32 (ofZ w32 (toZ w64 (ofZ w64 z))) ≡ held z
-      unfolding held
-      held-within = toZ-ofZ held-fits ∙ rw (toZ-ofZ fits, rw (toZ-ofZ fits) at above, rw (toZ-ofZ fits) at below)
+      pub exact-int : Fits (toZ w32 (ofZ w32 (toZ w64 (ofZ w64 z)))) ≡ exact z
+      unfolding exact
+      exact-int = ap Fits (toZ-ofZ an-int ∙ toZ-ofZ fits) ∙ rw (rw (toZ-ofZ fits) at above, rw (toZ-ofZ fits) at below)
 
 -- Two Ints are equal where their bits are.
 pub equal-bits : (y z : ℤ) → mag y < 2 ^ 31 → mag z < 2 ^ 31 → eqb (ofZ w32 y) (ofZ w32 z) ≡ equalZ y z

@@ -1,9 +1,11 @@
 // The function layer and the four-byte form of values (document 01, "Values and functions").
 pub mod packed;
 
+use saiga::Applied;
 use saiga::Function;
 use saiga::Holding;
 use saiga::NULL;
+use saiga::Sum;
 use saiga::Value;
 ghost use mathlib.Core.Path.{_≡_};
 ghost use mathlib.Core.Bool.{true};
@@ -14,7 +16,7 @@ ghost use lib.Seq.{sets};
 ghost use Rattle.values.specs.Cells.{emptied};
 ghost use Rattle.values.specs.Layout.{resultAt, parameterAt, kindAt};
 ghost use Rattle.saiga.specs.Limits.{nodeLimit};
-ghost use Rattle.saiga.specs.Values.{baseCode, baseOf, functionOf, held as heldOf, truth as truthOf, number as numberOf, nodeOf, applyFunction, applyHolding, apply as applied, ofBytes, toBytes, signed as signedOf, unsigned as unsignedOf, isWord, ofWord, toWord, typeCode, decimal as decimalOf};
+ghost use Rattle.saiga.specs.Values.{baseCode, baseOf, functionOf, exact as exactOf, truth as truthOf, number as numberOf, nodeOf, applyFunction, applyHolding, apply as applied, ofBytes, toBytes, signed as signedOf, unsigned as unsignedOf, isWord, ofWord, toWord, typeCode, decimal as decimalOf};
 
 // Null in its four-byte form.
 const NULL_WORD: u32 = NULL as u32;
@@ -25,29 +27,27 @@ fn long(z: i32) -> i64
     z as i64
 }
 
-fn sum(y: i32, x: i32) -> i64
-    ensures { λ r. ⌜ r ≡ y +ℤ x ⌝ }
+// A result, if it is an Int.
+fn exact(z: i64) -> Sum
+    ensures { λ r. ⌜ r ≡ exactOf z ⌝ }
 {
-    long(y) + long(x)
+    if z < -2147483648 || 2147483647 < z {
+        return Sum::Overflow;
+    }
+    Sum::Fits(z as i32)
 }
 
-fn difference(y: i32, x: i32) -> i64
-    ensures { λ r. ⌜ r ≡ y -ℤ x ⌝ }
+// Add and subtract. No sum or difference of two Ints leaves 64 bits, so the result that is tested is the exact one.
+fn add(y: i32, x: i32) -> Sum
+    ensures { λ r. ⌜ r ≡ exactOf (y +ℤ x) ⌝ }
 {
-    long(y) - long(x)
+    exact(long(y) + long(x))
 }
 
-// A sum or difference, held at the ends of Int.
-pub fn held(z: i64) -> i32
-    ensures { λ r. ⌜ r ≡ heldOf z ⌝ }
+fn subtract(y: i32, x: i32) -> Sum
+    ensures { λ r. ⌜ r ≡ exactOf (y -ℤ x) ⌝ }
 {
-    if z < -2147483648 {
-        return -2147483648;
-    }
-    if 2147483647 < z {
-        return 2147483647;
-    }
-    z as i32
+    exact(long(y) - long(x))
 }
 
 pub fn truth(v: Value) -> bool
@@ -102,15 +102,25 @@ fn apply_function(f: Function, x: Value) -> Value
     }
 }
 
-fn apply_holding(h: Holding, x: Value) -> Value
+fn apply_holding(h: Holding, x: Value) -> Applied
     ensures { λ r. ⌜ r ≡ applyHolding h x ⌝ }
 {
     match h {
-        Holding::Le(y) => Value::Bool(y <= number(x)),
-        Holding::EqualInt(y) => Value::Bool(y == number(x)),
-        Holding::EqualNode(y) => Value::Bool(y == node_of(x)),
-        Holding::Add(y) => Value::Int(held(sum(y, number(x)))),
-        Holding::Subtract(y) => Value::Int(held(difference(y, number(x)))),
+        Holding::Le(y) => Applied::Gives(Value::Bool(y <= number(x))),
+        Holding::EqualInt(y) => Applied::Gives(Value::Bool(y == number(x))),
+        Holding::EqualNode(y) => Applied::Gives(Value::Bool(y == node_of(x))),
+        Holding::Add(y) => {
+            let Sum::Fits(z) = add(y, number(x)) else {
+                return Applied::Overflow;
+            };
+            Applied::Gives(Value::Int(z))
+        }
+        Holding::Subtract(y) => {
+            let Sum::Fits(z) = subtract(y, number(x)) else {
+                return Applied::Overflow;
+            };
+            Applied::Gives(Value::Int(z))
+        }
     }
 }
 
@@ -129,16 +139,16 @@ pub fn function_of(code: u32) -> Function
 }
 
 // A function value applied to its argument.
-pub fn apply(f: Value, x: Value) -> Value
+pub fn apply(f: Value, x: Value) -> Applied
     ensures { λ r. ⌜ r ≡ applied f x ⌝ }
 {
     match f {
-        Value::Function(g) => apply_function(g, x),
+        Value::Function(g) => Applied::Gives(apply_function(g, x)),
         Value::Holding(h) => apply_holding(h, x),
-        Value::Unit => Value::Unit,
-        Value::Bool(_) => Value::Unit,
-        Value::Int(_) => Value::Unit,
-        Value::Node(_) => Value::Unit,
+        Value::Unit => Applied::Gives(Value::Unit),
+        Value::Bool(_) => Applied::Gives(Value::Unit),
+        Value::Int(_) => Applied::Gives(Value::Unit),
+        Value::Node(_) => Applied::Gives(Value::Unit),
     }
 }
 

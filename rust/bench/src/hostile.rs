@@ -44,7 +44,8 @@ fn million(last: u8, literal: Vec<u8>) -> Vec<u8> {
     asked(last - 1, 49, asked(last, 1, literal))
 }
 
-/// A store of some keys, of which one of node 0's attribute 0 is looked up again and again: its value is its parameter.
+/// A store of some keys, of which one of node 0's attribute 0 is looked up again and again: its value is its parameter. Other attributes
+/// are 1, so that sums of them fit.
 fn look_ups(keys: &[Key], sought: u32) -> Input {
     const NODES: usize = 1_024;
     const LAST: u8 = ATTRIBUTES + 2;
@@ -53,9 +54,7 @@ fn look_ups(keys: &[Key], sought: u32) -> Input {
         attribute(INT_TYPE, INT_TYPE).repeat(usize::from(LAST) + 1),
         node(0).repeat(NODES),
         figure(0, 0, sought),
-        (0..ATTRIBUTES)
-            .flat_map(|k| rule(0, k, &PARAMETER))
-            .collect(),
+        (0..ATTRIBUTES).flat_map(|k| rule(0, k, &int(1))).collect(),
         rule(0, ATTRIBUTES, &nested(0)),
         nests(ATTRIBUTES + 1, LAST),
         end(),

@@ -131,10 +131,10 @@ pub fn branches() -> Input {
 
 /// Attributes 0 to 7 each add up 28 numbers, of which about half are negative, in an irregular order; attribute 8 adds
 /// these up, 31 of them, and attribute 9 that 31 times. The question is the sum of 18 with capacity 0: 986,560 steps, with an
-/// Int read for every two.
+/// Int read for every two. The numbers have 23 bits, so that every sum fits.
 pub fn signs() -> Input {
     const SUMS: u8 = 8;
-    let number = |n: u32| (n.wrapping_mul(2_654_435_769) as i32) >> 8;
+    let number = |n: u32| (n.wrapping_mul(2_654_435_769) as i32) >> 9;
     let numbers = |k: u8| sum((0..28).map(|n| int(number(28 * u32::from(k) + n))));
     let often = |of_each: &[u8]| {
         let parts = of_each.iter().cycle().take(31);

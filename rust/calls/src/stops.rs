@@ -1,9 +1,9 @@
-//! The stops of document 01, with words for each.
+//! The stops of documents 01 and 02, with words for each.
 
 use core::error::Error;
 use core::fmt;
 
-/// Why no value is given. The discriminants are document 01's numbers.
+/// Why no value is given. The discriminants are the documents' numbers.
 #[derive(Clone, Copy, Debug, PartialEq, Eq, PartialOrd, Ord, Hash)]
 pub enum Stop {
     /// The sheet has over 65,536 bytes.
@@ -38,6 +38,8 @@ pub enum Stop {
     Spent = 15,
     /// An attribute that is not kept was due inside 64 open ones.
     Depth = 16,
+    /// A sum or difference was due that lies outside Int. The owner can mend it, whose rule adds or subtracts beyond one of Int's ends.
+    Overflow = 17,
 }
 
 /// Who causes a stop.
@@ -49,13 +51,13 @@ pub enum Origin {
     Lender,
     /// Who puts the question: stops 11 to 13.
     Asker,
-    /// The run itself: stops 14 to 16.
+    /// The run itself: stops 14 to 17.
     Run,
 }
 
 impl Stop {
     /// The stops in the order of their numbers.
-    pub const ALL: [Stop; 16] = [
+    pub const ALL: [Stop; 17] = [
         Stop::SheetLength,
         Stop::Command,
         Stop::TooMany,
@@ -72,15 +74,16 @@ impl Stop {
         Stop::Null,
         Stop::Spent,
         Stop::Depth,
+        Stop::Overflow,
     ];
 
-    /// The stop with a number from 1 to 16.
+    /// The stop with a number from 1 to 17.
     pub fn from_number(number: u32) -> Option<Stop> {
         let place = usize::try_from(number).ok()?.checked_sub(1)?;
         Stop::ALL.get(place).copied()
     }
 
-    /// Document 01's number, 1 to 16.
+    /// Its number, 1 to 17.
     pub fn number(self) -> u32 {
         self as u32
     }
@@ -126,6 +129,7 @@ impl fmt::Display for Stop {
             Stop::Null => "an attribute of null was due",
             Stop::Spent => "the budget is spent",
             Stop::Depth => "an attribute that is not kept was due inside 64 open ones",
+            Stop::Overflow => "a sum or difference was due that lies outside Int",
         })
     }
 }
@@ -184,7 +188,7 @@ mod tests {
             assert_eq!(stop.number() as usize, place + 1);
             assert_eq!(Stop::from_number(stop.number()), Some(*stop));
         }
-        for number in [0, 17, u32::MAX] {
+        for number in [0, 18, u32::MAX] {
             assert_eq!(Stop::from_number(number), None);
         }
     }
@@ -194,7 +198,19 @@ mod tests {
         let mut words: Vec<String> = Stop::ALL.iter().map(Stop::to_string).collect();
         words.sort();
         words.dedup();
-        assert_eq!(words.len(), 16);
+        assert_eq!(words.len(), 17);
+    }
+
+    #[test]
+    fn every_stop_has_its_origin() {
+        let with = |origin| {
+            let numbers = Stop::ALL.iter().filter(move |stop| stop.origin() == origin);
+            numbers.map(|stop| stop.number())
+        };
+        assert!(with(Origin::Author).eq(1..=8));
+        assert!(with(Origin::Lender).eq(9..=10));
+        assert!(with(Origin::Asker).eq(11..=13));
+        assert!(with(Origin::Run).eq(14..=17));
     }
 
     #[test]

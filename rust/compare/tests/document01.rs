@@ -6,6 +6,8 @@ mod common;
 mod depth;
 #[path = "../../trials/tests/document01/ints.rs"]
 mod ints;
+#[path = "../../trials/tests/document01/overflow.rs"]
+mod overflow;
 #[path = "../../trials/tests/document01/sheet_l.rs"]
 mod sheet_l;
 #[path = "../../trials/tests/document01/stops.rs"]

@@ -1,4 +1,4 @@
-//! Document 01, "The steps", and stops 14 to 16 of "Stops by origin"; document 02, F-2 and F-8.
+//! Document 01, "The steps", and stops 14 to 16 of "Stops by origin"; document 02, F-2, F-4 and F-8.
 //!
 //! A recursive evaluator over the expression tree: "left part before right part, IF by condition only". A call of `evaluate` inside that of
 //! a definition is what lies inside the form n.a(v) := e.
@@ -39,7 +39,7 @@ pub struct Outcome {
     pub tally: Tally,
 }
 
-/// Evaluates an accepted question. "Stops 14 to 16 bring the tally so far."
+/// Evaluates an accepted question. "Stops 14 to 16 bring the tally so far", and so does 17, which "leaves store and tally as 14 does".
 pub fn evaluate(sheet: &Sheet, store: &mut Store, question: &Expr, budget: u64) -> Outcome {
     let levels = question.depth() + MOST_OPEN * (1 + sheet.deepest_rule());
     let mut run = Run {
@@ -97,9 +97,11 @@ impl<'a> Run<'a, '_> {
                     let [function, argument] = &**parts;
                     let function = self.evaluate(function, here)?;
                     let argument = self.evaluate(argument, here)?;
+                    // Overflow is "tested like 14 before 15", and "the step is not counted".
+                    let result = function.apply(argument)?;
                     self.not_spent()?;
                     self.count(Rule::AppApp);
-                    return Ok(function.apply(argument));
+                    return Ok(result);
                 }
                 Expr::Attribute(attribute, parts) => {
                     let [node, parameter] = &**parts;

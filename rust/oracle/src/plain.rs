@@ -1,4 +1,4 @@
-//! Document 01, "Plain Saiga": no store, no budget and no limit on depth.
+//! Document 01, "Plain Saiga": no store, no budget and no limit on depth; document 02, F-4.
 //!
 //! The state is one expression and a count. The expression is kept as the part being stepped and what stands around it,
 //! from the outside in. σ(n, a, v) is its rule's expression with n and v beside it, put for 0x30 and 0x31 where these
@@ -6,15 +6,27 @@
 
 use crate::expr::Expr;
 use crate::sheet::{Definition, Sheet};
-use crate::values::Value;
+use crate::values::{Overflow, Value};
 
-/// "It ends with a value or on null, and n is the count then; or it runs for ever."
+/// "It ends with a value or on null, and n is the count then; or it runs for ever." There are "three endings, value, null and overflow"
+/// (document 02, F-4).
 #[derive(Clone, Copy, Debug, PartialEq, Eq)]
 pub enum Ending {
     Value(Value, u64),
     Null(u64),
+    Overflow(u64),
     /// A further step was due after as many as the caller allowed.
     Running(u64),
+}
+
+impl Ending {
+    /// The n of an ending.
+    pub fn n(self) -> Option<u64> {
+        match self {
+            Ending::Value(_, n) | Ending::Null(n) | Ending::Overflow(n) => Some(n),
+            Ending::Running(_) => None,
+        }
+    }
 }
 
 /// An expression as it is written, with the "n and v put for 0x30 and 0x31" ("The sheet"); a question has neither.
@@ -58,7 +70,8 @@ enum Around<'a> {
     },
 }
 
-/// Runs plain Saiga on an accepted question, for at most `limit` counted steps. "On null, all of plain Saiga ends, uncounted."
+/// Runs plain Saiga on an accepted question, for at most `limit` counted steps. "On null, all of plain Saiga ends, uncounted", and on a sum
+/// that does not fit too.
 pub fn run(sheet: &Sheet, question: &Expr, limit: u64) -> Ending {
     let mut around = Vec::new();
     let mut count = 0;
@@ -93,15 +106,20 @@ pub fn run(sheet: &Sheet, question: &Expr, limit: u64) -> Ending {
                 node: Value::Node(None),
                 ..
             }) => return Ending::Null(count),
-            Some(_) if count == limit => return Ending::Running(count),
             Some(Around::Condition { yes, no }) => match value {
                 Value::Bool(true) => Part::Written(yes),
                 Value::Bool(false) => Part::Written(no),
                 other => unreachable!("ill typed: IF {other:?}"),
             },
-            Some(Around::Right { function }) => Part::Value(function.apply(value)),
+            Some(Around::Right { function }) => match function.apply(value) {
+                Ok(result) => Part::Value(result),
+                Err(Overflow) => return Ending::Overflow(count),
+            },
             Some(Around::Parameter { attribute, node }) => context(sheet, node, attribute, value),
         };
+        if count == limit {
+            return Ending::Running(count);
+        }
         count += 1;
         part = reduct;
     }

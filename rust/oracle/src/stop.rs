@@ -1,4 +1,6 @@
-//! Document 01, "Stops by origin".
+//! Document 01, "Stops by origin"; document 02, F-4.
+
+use crate::values::Overflow;
 
 /// Why no value is given, by number.
 #[derive(Clone, Copy, Debug, PartialEq, Eq)]
@@ -19,6 +21,13 @@ pub enum Reason {
     Null = 14,
     Spent = 15,
     Depth = 16,
+    Overflow = 17,
+}
+
+impl From<Overflow> for Reason {
+    fn from(Overflow: Overflow) -> Reason {
+        Reason::Overflow
+    }
 }
 
 /// A stop with its place, which is 0 where document 01 names no other.

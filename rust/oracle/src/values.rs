@@ -1,4 +1,4 @@
-//! Document 01, "Values and functions".
+//! Document 01, "Values and functions"; document 02, F-3 and F-4.
 
 /// "65,535 for null": in the four bytes of a Node, in the two of a Node literal, and in an answer.
 pub const NULL: u16 = 65_535;
@@ -101,11 +101,15 @@ pub enum Value {
     Holding(Holding),
 }
 
+/// "An add or subtract whose exact result lies outside Int has no value" (document 02, F-4).
+#[derive(Clone, Copy, Debug, PartialEq, Eq)]
+pub struct Overflow;
+
 impl Value {
     /// The result of giving `argument` to this function, which typing has found fit for it. "All but 3 take their arguments one after the
     /// other", and "null equals only null".
-    pub fn apply(self, argument: Value) -> Value {
-        match (self, argument) {
+    pub fn apply(self, argument: Value) -> Result<Value, Overflow> {
+        Ok(match (self, argument) {
             (Value::Function(Function::Le), Value::Int(x)) => Value::Holding(Holding::Le(x)),
             (Value::Function(Function::EqualInt), Value::Int(x)) => {
                 Value::Holding(Holding::EqualInt(x))
@@ -121,14 +125,12 @@ impl Value {
             (Value::Holding(Holding::Le(x)), Value::Int(y)) => Value::Bool(x <= y),
             (Value::Holding(Holding::EqualInt(x)), Value::Int(y)) => Value::Bool(x == y),
             (Value::Holding(Holding::EqualNode(x)), Value::Node(y)) => Value::Bool(x == y),
-            (Value::Holding(Holding::Add(x)), Value::Int(y)) => {
-                Value::Int(held(i64::from(x) + i64::from(y)))
-            }
+            (Value::Holding(Holding::Add(x)), Value::Int(y)) => fit(i64::from(x) + i64::from(y))?,
             (Value::Holding(Holding::Subtract(x)), Value::Int(y)) => {
-                Value::Int(held(i64::from(x) - i64::from(y)))
+                fit(i64::from(x) - i64::from(y))?
             }
             (function, argument) => unreachable!("ill typed: {function:?} of {argument:?}"),
-        }
+        })
     }
 
     /// The base type of a base value; `None` for a function.
@@ -189,9 +191,12 @@ pub fn node(number: u16, nodes: usize) -> Option<Value> {
     }
 }
 
-/// "A sum or difference beyond either end of Int is held at that end."
-fn held(exact: i64) -> i32 {
-    exact.clamp(i64::from(i32::MIN), i64::from(i32::MAX)) as i32
+/// The Int of an exact result, which is "−2,147,483,648 to 2,147,483,647" or none.
+fn fit(exact: i64) -> Result<Value, Overflow> {
+    match i32::try_from(exact) {
+        Ok(int) => Ok(Value::Int(int)),
+        Err(_) => Err(Overflow),
+    }
 }
 
 #[cfg(test)]

@@ -1,5 +1,5 @@
-//! Document 01, "Sheet L and its questions": L1 to L13 with their tallies (document 02, F-2), from bytes written out by hand. `rust/trials` puts
-//! many more cases to the evaluator.
+//! Document 01, "Sheet L and its questions": L1 to L13 with their tallies (document 02, F-2 and F-4), from bytes written out by hand.
+//! `rust/trials` puts many more cases to the evaluator.
 
 use oracle::ask::{ask, read_question};
 use oracle::plain::{self, Ending};
@@ -84,8 +84,11 @@ fn l2_l3_and_l5_to_l13() {
     assert_eq!(asked(&SHEET_L, 1_024, &five, 0), [0, 0, 2, 5, 0, 0]);
     assert_eq!(asked(&SHEET_L12, 1_024, &L12, 65), [16, 0, 0, 0, 64, 0]);
     assert_eq!(asked(&SHEET_L12, 1_024, &L12, 64), [15, 0, 0, 0, 64, 0]);
-    let most = i64::from(i32::MAX);
-    assert_eq!(asked(&SHEET_L, 1_024, &L13, MOST), [0, 0, 2, most, 2, 0]);
+    // "Case L13 now stops after 1 step": 17 where a budget of 1 or more lets it come so far.
+    assert_eq!(asked(&SHEET_L, 1_024, &L13, 0), [15, 0, 0, 0, 0, 0]);
+    for budget in [1, 2, MOST] {
+        assert_eq!(asked(&SHEET_L, 1_024, &L13, budget), [17, 0, 0, 0, 1, 0]);
+    }
 }
 
 #[test]
@@ -125,7 +128,7 @@ fn the_tallies_of_l1_to_l13() {
     tallies(&SHEET_L12, 1_024, &L12, 65, [64, 0, 0, 0, 0]);
     tallies(&SHEET_L12, 1_024, &L12, 64, [64, 0, 0, 0, 0]);
     // L13
-    tallies(&SHEET_L, 1_024, &L13, MOST, [0, 0, 0, 2, 0]);
+    tallies(&SHEET_L, 1_024, &L13, MOST, [0, 0, 0, 1, 0]);
 }
 
 #[test]
@@ -136,15 +139,22 @@ fn the_empty_sheet_and_the_shortest() {
 
 #[test]
 fn plain_saiga_keeps_nothing() {
-    let ending = |sheet: &[u8], question: &[u8]| {
+    let ending = |sheet: &[u8], question: &[u8], limit| {
         let sheet = Sheet::read(sheet).expect("an accepted sheet");
         let question = read_question(question, &sheet).expect("an accepted question");
-        plain::run(&sheet, &question, 1_000)
+        plain::run(&sheet, &question, limit)
     };
-    assert_eq!(ending(&SHEET_L, &D), Ending::Value(Value::Int(700), 8));
-    assert_eq!(ending(&SHEET_L, &L6), Ending::Value(Value::Bool(true), 18));
-    assert_eq!(ending(&SHEET_L, &L10), Ending::Null(1));
-    assert_eq!(ending(&SHEET_L12, &L12), Ending::Running(1_000));
+    let seven_hundred = Ending::Value(Value::Int(700), 8);
+    assert_eq!(ending(&SHEET_L, &D, 1_000), seven_hundred);
+    let equal = Ending::Value(Value::Bool(true), 18);
+    assert_eq!(ending(&SHEET_L, &L6, 1_000), equal);
+    assert_eq!(ending(&SHEET_L12, &L12, 1_000), Ending::Running(1_000));
+    // Null and overflow end it uncounted.
+    for (question, ended) in [(&L10[..], Ending::Null(1)), (&L13, Ending::Overflow(1))] {
+        assert_eq!(ending(&SHEET_L, question, 1_000), ended);
+        assert_eq!(ending(&SHEET_L, question, 1), ended);
+        assert_eq!(ending(&SHEET_L, question, 0), Ending::Running(0));
+    }
 }
 
 #[test]
@@ -163,7 +173,7 @@ fn a_stop_of_each_origin_has_its_number_and_place() {
 }
 
 #[test]
-fn stops_have_document_01s_numbers() {
+fn stops_have_the_documents_numbers() {
     let in_order = [
         Reason::SheetLength,
         Reason::Command,
@@ -181,6 +191,7 @@ fn stops_have_document_01s_numbers() {
         Reason::Null,
         Reason::Spent,
         Reason::Depth,
+        Reason::Overflow,
     ];
     for (number, reason) in (1..).zip(in_order) {
         assert_eq!(reason as i64, number);

@@ -1,96 +1,130 @@
-//! Document 01, "Values and functions".
+//! Document 01, "Values and functions"; document 02, F-4.
 
-use oracle::values::{Base, Function, Type, Value};
+use oracle::values::{Base, Function, Overflow, Type, Value};
 
 const MIN: i32 = i32::MIN;
 const MAX: i32 = i32::MAX;
 
-fn of_ints(function: Function, first: i32, second: i32) -> Value {
-    Value::Function(function)
-        .apply(Value::Int(first))
-        .apply(Value::Int(second))
+/// What a function of two arguments brings. The first application has always a value.
+fn of_two(function: Function, first: Value, second: Value) -> Result<Value, Overflow> {
+    let holding = Value::Function(function).apply(first);
+    holding.expect("a function holding its first").apply(second)
+}
+
+fn of_ints(function: Function, first: i32, second: i32) -> Result<Value, Overflow> {
+    of_two(function, Value::Int(first), Value::Int(second))
 }
 
 #[test]
-fn add_is_held_at_both_ends() {
+fn sums_up_to_both_ends_fit() {
     let cases = [
         (MAX, 0, MAX),
-        (MAX, 1, MAX),
-        (1, MAX, MAX),
-        (MAX, MAX, MAX),
+        (0, MAX, MAX),
         (MAX - 1, 1, MAX),
+        (1, MAX - 1, MAX),
+        (1 << 30, (1 << 30) - 1, MAX),
         (MIN, 0, MIN),
-        (MIN, -1, MIN),
-        (-1, MIN, MIN),
-        (MIN, MIN, MIN),
         (MIN + 1, -1, MIN),
+        (-1, MIN + 1, MIN),
+        (-(1 << 30), -(1 << 30), MIN),
         (MIN, MAX, -1),
+        (MAX, MIN, -1),
         (3, -5, -2),
     ];
     for (first, second, sum) in cases {
-        assert_eq!(of_ints(Function::Add, first, second), Value::Int(sum));
+        let given = of_ints(Function::Add, first, second);
+        assert_eq!(given, Ok(Value::Int(sum)), "{first} {second}");
     }
 }
 
 #[test]
-fn subtract_is_held_at_both_ends() {
+fn differences_up_to_both_ends_fit() {
     let cases = [
-        (MAX, -1, MAX),
-        (MAX, MIN, MAX),
-        (0, MIN, MAX),
-        (-1, MIN, MAX),
         (MAX, 0, MAX),
-        (MIN, 1, MIN),
-        (MIN, MAX, MIN),
-        (-2, MAX, MIN),
+        (MAX - 1, -1, MAX),
+        (0, -MAX, MAX),
+        (-1, MIN, MAX),
+        (MIN, 0, MIN),
+        (MIN + 1, 1, MIN),
         (-1, MAX, MIN),
+        (0, MAX, MIN + 1),
         (MIN, MIN, 0),
         (MAX, MAX, 0),
         (3, 5, -2),
     ];
     for (first, second, difference) in cases {
-        assert_eq!(
-            of_ints(Function::Subtract, first, second),
-            Value::Int(difference)
-        );
+        let given = of_ints(Function::Subtract, first, second);
+        assert_eq!(given, Ok(Value::Int(difference)), "{first} {second}");
+    }
+}
+
+#[test]
+fn sums_and_differences_beyond_an_end_have_no_value() {
+    let sums = [
+        (MAX, 1),
+        (1, MAX),
+        (MAX, MAX),
+        (1 << 30, 1 << 30),
+        (MIN, -1),
+        (-1, MIN),
+        (MIN, MIN),
+        (-(1 << 30) - 1, -(1 << 30)),
+    ];
+    for (first, second) in sums {
+        let given = of_ints(Function::Add, first, second);
+        assert_eq!(given, Err(Overflow), "{first} {second}");
+    }
+    let differences = [
+        (MAX, -1),
+        (MAX, MIN),
+        (0, MIN),
+        (1, -MAX),
+        (MIN, 1),
+        (-2, MAX),
+        (MIN, MAX),
+    ];
+    for (first, second) in differences {
+        let given = of_ints(Function::Subtract, first, second);
+        assert_eq!(given, Err(Overflow), "{first} {second}");
     }
 }
 
 #[test]
 fn le_and_equal_on_int() {
     for (first, second) in [(MIN, MAX), (MIN, MIN + 1), (-1, 0), (MAX - 1, MAX)] {
-        assert_eq!(of_ints(Function::Le, first, second), Value::Bool(true));
-        assert_eq!(of_ints(Function::Le, second, first), Value::Bool(false));
-        assert_eq!(
-            of_ints(Function::EqualInt, first, second),
-            Value::Bool(false)
-        );
+        let (yes, no) = (Ok(Value::Bool(true)), Ok(Value::Bool(false)));
+        assert_eq!(of_ints(Function::Le, first, second), yes);
+        assert_eq!(of_ints(Function::Le, second, first), no);
+        assert_eq!(of_ints(Function::EqualInt, first, second), no);
+        assert_eq!(of_ints(Function::EqualInt, second, first), no);
     }
     for same in [MIN, -1, 0, 1, MAX] {
-        assert_eq!(of_ints(Function::Le, same, same), Value::Bool(true));
-        assert_eq!(of_ints(Function::EqualInt, same, same), Value::Bool(true));
+        for function in [Function::Le, Function::EqualInt] {
+            assert_eq!(of_ints(function, same, same), Ok(Value::Bool(true)));
+        }
     }
 }
 
 #[test]
 fn null_equals_only_null() {
-    let equal = |first, second| {
-        Value::Function(Function::EqualNode)
-            .apply(Value::Node(first))
-            .apply(Value::Node(second))
-    };
-    assert_eq!(equal(None, None), Value::Bool(true));
-    assert_eq!(equal(Some(0), None), Value::Bool(false));
-    assert_eq!(equal(None, Some(0)), Value::Bool(false));
-    assert_eq!(equal(Some(1_023), Some(1_023)), Value::Bool(true));
-    assert_eq!(equal(Some(1), Some(2)), Value::Bool(false));
+    let cases = [
+        (None, None, true),
+        (Some(0), None, false),
+        (None, Some(0), false),
+        (Some(1_023), Some(1_023), true),
+        (Some(1), Some(2), false),
+    ];
+    for (first, second, equal) in cases {
+        let given = of_two(Function::EqualNode, Value::Node(first), Value::Node(second));
+        assert_eq!(given, Ok(Value::Bool(equal)), "{first:?} {second:?}");
+    }
 }
 
 #[test]
 fn not_turns_a_bool() {
     let not = Value::Function(Function::Not);
-    assert_eq!(not.apply(Value::Bool(true)), Value::Bool(false));
-    assert_eq!(not.apply(Value::Bool(false)), Value::Bool(true));
+    assert_eq!(not.apply(Value::Bool(true)), Ok(Value::Bool(false)));
+    assert_eq!(not.apply(Value::Bool(false)), Ok(Value::Bool(true)));
 }
 
 #[test]

@@ -5,6 +5,7 @@ use std::fs;
 use std::path::Path;
 
 use calls::tally::{APPLICATIONS, CONDITIONS, TALLY_ROWS};
+use calls::Stop;
 
 /// A call's parameters, one for each machine word that is passed, and its result.
 type Calls = BTreeMap<String, (Vec<String>, String)>;
@@ -282,6 +283,26 @@ fn the_rows_of_a_tally_have_the_same_numbers() {
     ] {
         assert_eq!((sizes.value(rattle), declared(c)), (rust, rust), "{c}");
     }
+}
+
+#[test]
+fn the_stops_have_the_same_names_and_numbers() {
+    // `SheetLength` of number 1 is `SHEET_LENGTH = 1` in C.
+    let in_c = |stop: &Stop| {
+        let mut name = String::new();
+        for letter in format!("{stop:?}").chars() {
+            if letter.is_uppercase() && !name.is_empty() {
+                name.push('_');
+            }
+            name.push(letter.to_ascii_uppercase());
+        }
+        format!("SOFRETU_{name} = {}", stop.number())
+    };
+    let header = text("include/sofretu.h");
+    let mut declared = between(&header, "enum {", "}").into_iter();
+    let stops = declared.find(|stops| stops.contains("SOFRETU_SHEET_LENGTH"));
+    let stops = parts(stops.expect("the stops"));
+    assert_eq!(stops, Stop::ALL.iter().map(in_c).collect::<Vec<_>>());
 }
 
 #[test]

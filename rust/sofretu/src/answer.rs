@@ -14,7 +14,7 @@ pub enum Value {
     Unit,
     /// A truth value.
     Bool(bool),
-    /// A number; sums and differences are held at the ends of its range.
+    /// A number. A sum or difference outside its range has no value, and is [`Stop::Overflow`].
     Int(i32),
     /// A declared node by its number, or null.
     Node(Option<u16>),
@@ -217,7 +217,7 @@ mod tests {
         let answers = values
             .into_iter()
             .map(|(typ, value)| [0, 0, typ, value, 8, 5])
-            .chain((1..=16).map(|number| [number, 3, 0, 0, 2, -1]));
+            .chain((1..=17).map(|number| [number, 3, 0, 0, 2, -1]));
         for fields in answers {
             let rows = rows(fields[4]);
             let answer = Answer::from_fields(fields, &rows).expect("an answer");
@@ -229,7 +229,7 @@ mod tests {
     #[test]
     fn nothing_else_is_an_answer() {
         let others = [
-            [17, 0, 0, 0, 0, 0],
+            [18, 0, 0, 0, 0, 0],
             [-1, 0, 0, 0, 0, 0],
             [0, 1, 0, 0, 0, 0],
             [0, 0, 4, 0, 0, 0],

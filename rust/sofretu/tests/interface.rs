@@ -45,11 +45,15 @@ fn a_session_keeps_what_it_works_out() {
     let mut store = Store::with_capacity(2);
     let mut session = Session::open(&sheet, &mut store).expect("an empty store");
     // What is not kept takes the attribute's step and the two of add.
-    for (parameter, applications, kept) in
-        [(5, 2, 1), (5, 0, 1), (i32::MAX, 2, 2), (9, 2, 2), (9, 2, 2)]
-    {
+    for (parameter, applications, kept) in [
+        (5, 2, 1),
+        (5, 0, 1),
+        (i32::MAX - 1, 2, 2),
+        (9, 2, 2),
+        (9, 2, 2),
+    ] {
         let expected = Answer::Value {
-            value: Value::Int(parameter.saturating_add(1)),
+            value: Value::Int(parameter + 1),
             steps: 1 + applications,
             kept,
             tally: tally(1, applications),
@@ -59,6 +63,34 @@ fn a_session_keeps_what_it_works_out() {
     }
     let again = Session::open(&sheet, &mut store).map(|session| session.store().clone());
     assert_eq!(again.expect("what a session left passes"), store);
+}
+
+#[test]
+fn a_sum_that_does_not_fit_is_no_figure() {
+    let sheet = Sheet::check(&ONE_MORE).expect("an accepted sheet");
+    let mut store = Store::with_capacity(2);
+    let mut session = Session::open(&sheet, &mut store).expect("an empty store");
+    session.ask(&after(5), MOST_STEPS);
+    let before = session.store().clone();
+    // The attribute's step and the first of add are counted; the one that would bring the sum is not. Nor is the figure kept, so it is the
+    // same when asked again, and with just the steps before.
+    let expected = Answer::Refusal {
+        stop: Stop::Overflow,
+        place: 0,
+        steps: 2,
+        kept: 1,
+        tally: tally(1, 1),
+    };
+    for budget in [MOST_STEPS, MOST_STEPS, 3, 2] {
+        assert_eq!(session.ask(&after(i32::MAX), budget), expected);
+        assert_eq!(*session.store(), before);
+    }
+    let spent = session.ask(&after(i32::MAX), 1).value();
+    assert_eq!(spent, Err(Stop::Spent.into()));
+    assert_eq!(Stop::Overflow.origin(), Origin::Run);
+    // The end itself fits.
+    let last = session.ask(&after(i32::MAX - 1), 3).value();
+    assert_eq!(last, Ok(Value::Int(i32::MAX)));
 }
 
 #[test]

@@ -53,7 +53,7 @@ pub fn vectors(engines: &mut [Named], file: &str) -> Result<(), String> {
     }
 }
 
-/// Puts generated lists to a check. Every number from 0 to 16 and every row of the tally must be met.
+/// Puts generated lists to a check. Every number, 0 and those of the stops, and every row of the tally must be met.
 pub fn run(
     cases: u64,
     seed: u64,

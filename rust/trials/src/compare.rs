@@ -4,7 +4,7 @@ use std::array;
 use std::collections::{BTreeMap, BTreeSet};
 use std::fmt;
 
-use calls::{Call, Tally};
+use calls::{Call, Stop, Tally};
 use oracle::ask::Answer;
 use oracle::store::{ENTRY, MOST_ENTRIES};
 
@@ -50,9 +50,11 @@ impl Counts {
         self.tally(&other.steps);
     }
 
-    /// The numbers from 0 to 16 that no answer had.
+    /// The numbers, 0 and those of the stops, that no answer had.
     pub fn unmet(&self) -> Vec<i64> {
-        (0..=16)
+        let stops = Stop::ALL.iter().map(|stop| i64::from(stop.number()));
+        [0].into_iter()
+            .chain(stops)
             .filter(|number| !self.answers.contains_key(number))
             .collect()
     }

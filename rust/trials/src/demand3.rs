@@ -1,6 +1,6 @@
-//! Demand 3's four parts (document 01, "Contracts"), tried on an engine's answers against plain Saiga.
+//! Demand 3's four parts (document 01, "Contracts"; document 02, F-4), tried on an engine's answers against plain Saiga.
 //!
-//! - (a) If plain Saiga ends with a value or on null in n steps, every permitted budget from n on, put at that place of
+//! - (a) If plain Saiga ends with a value, on null or by overflow in n steps, every permitted budget from n on, put at that place of
 //!   the list, brings that ending in at most n steps, or stop 16.
 //! - (b) Whatever the budget, such an ending is reported only if plain Saiga comes to the same in no fewer steps.
 //! - (c) Where the list brings such an ending, any larger store brings the same one there in no more steps.
@@ -32,6 +32,7 @@ pub const PLAIN_LIMIT: u64 = 20_000;
 const NULL: i64 = Stop::Null as i64;
 const SPENT: i64 = Stop::Spent as i64;
 const DEPTH: i64 = Stop::Depth as i64;
+const OVERFLOW: i64 = Stop::Overflow as i64;
 
 /// What is checked, as it is named in counts and violations.
 const A: &str = "demand 3 (a)";
@@ -168,11 +169,8 @@ impl Place<'_> {
     fn budgets(&self, own: &Answer) -> Vec<u64> {
         let steps = own.steps.max(0) as u64;
         let mut budgets = vec![0, MOST_STEPS];
-        let count = match self.ending {
-            Some(Ending::Value(_, count) | Ending::Null(count)) => count,
-            _ => steps,
-        };
-        for middle in [steps, count, self.ask.budget] {
+        let n = self.ending.and_then(Ending::n).unwrap_or(steps);
+        for middle in [steps, n, self.ask.budget] {
             budgets.extend([
                 middle.saturating_sub(1),
                 middle,
@@ -187,34 +185,32 @@ impl Place<'_> {
     }
 
     fn try_a(&self, tried: &Tried, counts: &mut Counts) -> Result<(), String> {
-        let Some(ending @ (Ending::Value(_, n) | Ending::Null(n))) = self.ending else {
+        let Some(ending) = self.ending else {
             return Ok(());
         };
-        if tried.budget < n {
+        if ending.n().is_none_or(|n| tried.budget < n) {
             return Ok(());
         }
         counts.check(A);
-        let answer = &tried.answer;
-        if answer.number == DEPTH || (same_ending(answer, ending) && answer.steps <= n as i64) {
+        if tried.answer.number == DEPTH || spares_steps(&tried.answer, ending) {
             return Ok(());
         }
         Err(self.differs(tried))
     }
 
     fn try_b(&self, tried: &Tried, counts: &mut Counts) -> Result<(), String> {
-        let answer = &tried.answer;
         match self.ending {
-            Some(ending @ (Ending::Value(_, n) | Ending::Null(n))) if ended(answer) => {
+            Some(ending) if ended(&tried.answer) => {
+                if ending.n().is_none() {
+                    counts.check(B_UNSETTLED);
+                    return Ok(());
+                }
                 counts.check(B);
-                if same_ending(answer, ending) && answer.steps <= n as i64 {
+                if spares_steps(&tried.answer, ending) {
                     Ok(())
                 } else {
                     Err(self.differs(tried))
                 }
-            }
-            Some(Ending::Running(_)) if ended(answer) => {
-                counts.check(B_UNSETTLED);
-                Ok(())
             }
             _ => Ok(()),
         }
@@ -226,10 +222,8 @@ impl Place<'_> {
             return Ok(());
         }
         let good = match self.ending {
-            Some(ending @ (Ending::Value(_, n) | Ending::Null(n))) => {
-                same_ending(answer, ending) && answer.steps == n as i64
-            }
             Some(Ending::Running(n)) => answer.steps > n as i64,
+            Some(ending) => same_ending(answer, ending) && ending.n() == Some(answer.steps as u64),
             None => return Ok(()),
         };
         counts.check(CAPACITY_0);
@@ -250,7 +244,7 @@ impl Place<'_> {
 
 /// Whether an answer reports an ending at all.
 fn ended(answer: &Answer) -> bool {
-    answer.number == 0 || answer.number == NULL
+    [0, NULL, OVERFLOW].contains(&answer.number)
 }
 
 /// The ending that an answer reports: number, type and value.
@@ -266,8 +260,15 @@ fn same_ending(answer: &Answer, ending: Ending) -> bool {
             .base()
             .is_some_and(|base| reported == (0, i64::from(base.code()), value.number())),
         Ending::Null(_) => reported == (NULL, 0, 0),
+        Ending::Overflow(_) => reported == (OVERFLOW, 0, 0),
         Ending::Running(_) => false,
     }
+}
+
+/// Whether an answer reports an ending of plain Saiga in no more steps than it took.
+fn spares_steps(answer: &Answer, ending: Ending) -> bool {
+    let within = |n| answer.steps <= n as i64;
+    same_ending(answer, ending) && ending.n().is_some_and(within)
 }
 
 fn try_tally(answer: &Answer, counts: &mut Counts) -> Result<(), String> {

@@ -4,6 +4,8 @@
 //!   themselves with smaller parameters, circles, hostile ones (the longest rules, the deepest nesting, the widest fan-out), trees,
 //!   and large ones up to every limit and one byte beyond. Those with deep chains come with questions of which one has what another keeps
 //!   due inside 64 forms. The attributes that matter have any numbers from 0 to 31, so that their steps are in every row of the tally.
+//! - `sums.rs`: sheets and questions with sums at both ends of Int and beyond them, due in every place of a rule, and attributes that climb to an
+//!   end.
 //! - `collisions.rs`: sheets, questions and stores with keys that fall into one bucket of the store's index, and along its longest path.
 //! - `faults.rs`: sheets that are damaged byte by byte, mangled command by command, ill typed, ill formed or incomplete.
 //! - `draft.rs`: values, among them Ints at both ends.
@@ -18,6 +20,7 @@ mod questions;
 mod rng;
 mod sheets;
 mod stores;
+mod sums;
 mod writer;
 
 use oracle::ask::{ask_accepted, MOST_STEPS};
@@ -116,7 +119,7 @@ fn budget(rng: &mut Rng, steps: u64) -> u64 {
 mod tests {
     use super::*;
     use crate::compare::Counts;
-    use crate::engine::Oracle;
+    use crate::engine::{Lent, Oracle};
     use std::collections::{BTreeMap, BTreeSet};
 
     #[test]
@@ -165,12 +168,68 @@ mod tests {
             let unmet = met[&number].unmet_rows();
             assert_eq!(unmet, [0; 0], "rows under {number}");
         }
-        // Forms go deep by few attributes at a time.
-        let unmet = met[&16].unmet_rows();
-        assert!(unmet.len() <= 8, "rows under 16: {unmet:?}");
-        assert!([0, 31, 32, 33].iter().all(|row| !unmet.contains(row)));
+        // Forms go deep by few attributes at a time, and sums that do not fit are few.
+        for number in [16, 17] {
+            let unmet = met[&number].unmet_rows();
+            assert!(unmet.len() <= 8, "rows under {number}: {unmet:?}");
+            assert!([0, 31, 32, 33].iter().all(|row| !unmet.contains(row)));
+        }
         for number in 1..=13 {
             assert_eq!(met[&number].unmet_rows().len(), 34, "rows under {number}");
+        }
+    }
+
+    /// How often a stop is met.
+    #[derive(Debug, Default)]
+    struct Met {
+        /// With the whole budget used.
+        at: usize,
+        /// With one step of the budget left.
+        next: usize,
+        /// With more left.
+        later: usize,
+        /// As 15, where one step more would bring it.
+        before: usize,
+        /// With more kept than before the question.
+        keeping: usize,
+    }
+
+    #[test]
+    fn null_and_overflow_are_met_at_and_around_the_step_where_they_are_due() {
+        let mut answers = 0;
+        let mut met: BTreeMap<i64, Met> = BTreeMap::new();
+        let oracle = &mut Oracle::default();
+        for number in 0..1_500 {
+            let case = case(9, number);
+            let mut lent = Lent::first(&case);
+            for Ask { question, budget } in &case.asks {
+                let before = lent.clone();
+                let answer = lent.ask(oracle, &case.sheet, question, *budget);
+                answers += 1;
+                if answer.number == 15 {
+                    let more = before
+                        .clone()
+                        .ask(oracle, &case.sheet, question, budget + 1);
+                    met.entry(more.number).or_default().before += 1;
+                    continue;
+                }
+                let met = met.entry(answer.number).or_default();
+                met.keeping += usize::from(lent.kept > before.kept);
+                match budget - answer.steps as u64 {
+                    0 => met.at += 1,
+                    1 => met.next += 1,
+                    _ => met.later += 1,
+                }
+            }
+        }
+        for number in [14, 17] {
+            let met = &met[&number];
+            let all = met.at + met.next + met.later;
+            let percent = 100 * all / answers;
+            assert!((2..10).contains(&percent), "{number}: {percent}");
+            for some in [met.at, met.next, met.later, met.before, met.keeping] {
+                assert!(20 * some >= all, "{number}: {met:?}");
+            }
         }
     }
 

@@ -1,5 +1,5 @@
-//! The frame machine (document 01, "The steps", with stops 14 to 16): heads are read until one is a value, and values are
-//! given to frames until one has an expression to step.
+//! The frame machine (document 01, "The steps", with stops 14 to 16; document 02, F-4, with stop 17): heads are read until one is a value, and
+//! values are given to frames until one has an expression to step.
 
 use calls::index::Key;
 use calls::tally::{APPLICATIONS, ATTRIBUTES, CONDITIONS};
@@ -202,8 +202,9 @@ fn evaluate(
                     break;
                 }
                 Frame::Argument(function) => {
+                    // A sum that does not fit is tested before the budget.
+                    value = function.apply(value).ok_or(Stop::Overflow)?;
                     budget.count(&mut tally[APPLICATIONS])?;
-                    value = function.apply(value);
                     height = top;
                 }
                 Frame::Node { attribute } => {

@@ -1,4 +1,4 @@
-//! Document 01, "Values and functions".
+//! Document 01, "Values and functions"; document 02, F-4.
 
 use crate::bytes::int;
 
@@ -98,9 +98,10 @@ pub enum Value {
 }
 
 impl Value {
-    /// The result of giving an argument to this function, which typing has found fit for it.
-    pub fn apply(self, argument: Value) -> Value {
-        match (self, argument) {
+    /// The result of giving an argument to this function, which typing has found fit for it; none where a sum or difference lies outside
+    /// Int.
+    pub fn apply(self, argument: Value) -> Option<Value> {
+        Some(match (self, argument) {
             (Value::Function(function), Value::Int(x)) => Value::Holding(match function {
                 Function::Le => Holding::Le(x),
                 Function::EqualInt => Holding::EqualInt(x),
@@ -115,13 +116,13 @@ impl Value {
             (Value::Holding(holding), Value::Int(y)) => match holding {
                 Holding::Le(x) => Value::Bool(x <= y),
                 Holding::EqualInt(x) => Value::Bool(x == y),
-                Holding::Add(x) => Value::Int(x.saturating_add(y)),
-                Holding::Subtract(x) => Value::Int(x.saturating_sub(y)),
+                Holding::Add(x) => Value::Int(x.checked_add(y)?),
+                Holding::Subtract(x) => Value::Int(x.checked_sub(y)?),
                 Holding::EqualNode(_) => unreachable!("ill typed"),
             },
             (Value::Holding(Holding::EqualNode(x)), Value::Node(y)) => Value::Bool(x == y),
             _ => unreachable!("ill typed"),
-        }
+        })
     }
 
     /// The four-byte form of a base value.

@@ -1,7 +1,7 @@
--- `runs::give_right` meets its contract, by the limits.
+-- `runs::give_right` meets its contract, by what the function gives and the limits.
 use borrow.Author.Needs.{needs}
 use Rattle.engine.specs.CodeSteps.{steppedOf}
-use Rattle.runs.proofs.Limits.{within-spent, within-waits, within-goes}
+use Rattle.runs.proofs.Limits.{right-overflows, right-spent, right-waits, right-goes}
 use Rattle.runs.proofs.give_right.Statement.{statement}
 use Rattle.runs.proofs.give_right.Tie as tie
 
@@ -10,7 +10,11 @@ unfolding steppedOf
 give-right-spec =
     tie.close
     (tie.spec
-    (λ c mem. search within-spent)
-    (λ c mem. search within-waits)
     (λ c κs. search needs)
-    (λ c mem. rw (c .take-right .ensures) (search within-goes)))
+    (λ c. search needs)
+    (λ c. search needs)
+    (λ c mem. search right-overflows)
+    (λ c mem. search right-spent)
+    (λ c mem. search right-waits)
+    (λ c κs. search needs)
+    (λ c mem. rw (c .answered .ensures) (search right-goes)))

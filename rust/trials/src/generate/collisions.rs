@@ -5,11 +5,11 @@ use oracle::sheet::MOST_NODES;
 use oracle::store::ENTRY;
 use oracle::values::{Base, Value};
 
-use super::draft::{int, Draft};
+use super::draft::{int, small_int, Draft};
 use super::rng::Rng;
 use super::writer::{apply, literal, number};
 use crate::collide::{of_one_bucket, of_pair, Key, ATTRIBUTES, LONGEST_PATH};
-use crate::write::{entry, of, sum, INT_TYPE};
+use crate::write::{entry, if_else, of, sum, INT_TYPE};
 
 /// Keys that fall into one bucket.
 #[derive(Clone)]
@@ -17,6 +17,8 @@ pub struct Colliding {
     keys: Vec<Key>,
     /// The attribute that sums up as many of them as rules have room for.
     all: u8,
+    /// How an Int is drawn that a key has for its value.
+    value: fn(&mut Rng) -> i32,
 }
 
 /// Attributes with an Int parameter, others that sum up keys that collide, and one that sums up those.
@@ -24,12 +26,19 @@ pub fn draft(rng: &mut Rng) -> Draft {
     const SUMS: usize = 14;
     const PARTS: usize = 18;
     let mut draft = Draft::default();
+    // Sums of any values seldom fit: what comes after the first that does not is never kept.
+    let small = !rng.once_in(4);
+    let value = if small { small_int } else { int };
     for attribute in 0..ATTRIBUTES {
         draft.attribute(Base::Int, Base::Int);
         let rule = match rng.below(3) {
-            0 => number(int(rng)),
+            0 => number(value(rng)),
+            _ if small => {
+                let side = apply(0, &[&[0x31], &number(rng.draw() as i32)]);
+                if_else(&side, &number(value(rng)), &number(value(rng)))
+            }
             1 => vec![0x31],
-            _ => apply(4, &[&[0x31], &number(int(rng))]),
+            _ => apply(4, &[&[0x31], &number(value(rng))]),
         };
         draft.rules.push((0, attribute, rule));
     }
@@ -37,7 +46,7 @@ pub fn draft(rng: &mut Rng) -> Draft {
         draft.node(0);
     }
     if rng.once_in(2) {
-        draft.figures.push((0, 0, Value::Int(int(rng))));
+        draft.figures.push((0, 0, Value::Int(value(rng))));
     }
     let keys = keys(rng);
     let mut sums = Vec::new();
@@ -48,7 +57,7 @@ pub fn draft(rng: &mut Rng) -> Draft {
     }
     let all = draft.attribute(Base::Int, Base::Unit);
     draft.rules.push((0, all, sum(sums)));
-    draft.colliding = Some(Colliding { keys, all });
+    draft.colliding = Some(Colliding { keys, all, value });
     draft
 }
 
@@ -104,7 +113,8 @@ impl Colliding {
         let mut kept = 0;
         for (place, key) in store.chunks_exact_mut(ENTRY).zip(&self.keys) {
             let word = key.word as i32;
-            place.copy_from_slice(&entry(key.node, key.attribute, INT_TYPE, word, int(rng)));
+            let value = (self.value)(rng);
+            place.copy_from_slice(&entry(key.node, key.attribute, INT_TYPE, word, value));
             kept += 1;
         }
         kept

@@ -17,8 +17,8 @@ pub struct Draft {
     pub rules: Vec<(u8, u8, Vec<u8>)>,
     /// What its questions and stores can name, where the sheet is made for it.
     pub colliding: Option<Colliding>,
-    /// Questions of which one has what another keeps due inside 64 forms, or one more or less.
-    pub apart: Vec<Vec<u8>>,
+    /// Questions that the sheet is made for.
+    pub questions: Vec<Vec<u8>>,
 }
 
 impl Draft {
@@ -123,8 +123,13 @@ pub fn int(rng: &mut Rng) -> i32 {
         1 => i32::MAX,
         2 => rng.pick(&[i32::MIN + 1, i32::MAX - 1, -1, 1 << 30, -(1 << 30)]),
         3 => rng.draw() as i32,
-        _ => rng.below(9) as i32,
+        _ => small_int(rng),
     }
+}
+
+/// An Int of which sums fit.
+pub fn small_int(rng: &mut Rng) -> i32 {
+    rng.below(9) as i32
 }
 
 #[cfg(test)]

@@ -7,6 +7,7 @@ use oracle::values::{Base, Type, Value};
 use super::draft::{base_value, Draft};
 use super::faults::misfit;
 use super::rng::Rng;
+use super::sums::literals_at_an_end;
 use super::writer::{apply, function_types, literal, number, unit_of_length, Writer};
 use crate::write::{if_else, of};
 
@@ -17,8 +18,8 @@ pub fn question(rng: &mut Rng, draft: &Draft) -> Vec<u8> {
             return colliding.question(rng);
         }
     }
-    if !draft.apart.is_empty() && rng.once_in(3) {
-        return draft.apart[rng.below(draft.apart.len())].clone();
+    if !draft.questions.is_empty() && rng.once_in(3) {
+        return draft.questions[rng.below(draft.questions.len())].clone();
     }
     let attributes = draft.attributes.len().min(MOST_ATTRIBUTES);
     let pairs = attributes > 0 && !draft.nodes.is_empty();
@@ -38,6 +39,7 @@ pub fn question(rng: &mut Rng, draft: &Draft) -> Vec<u8> {
             let attribute = attribute(writer.rng, attributes);
             two_occurrences(&mut writer, attribute)
         }
+        9 if writer.rng.once_in(3) => literals_at_an_end(writer.rng),
         _ => {
             let base = writer.rng.pick(&Base::ALL);
             let room = writer.rng.pick(&[1, 10, 20, 40, 80, LONGEST]);

@@ -6,14 +6,15 @@ use oracle::sheet::{LONGEST_SHEET, MOST_ATTRIBUTES, MOST_NODES};
 use oracle::values::{Base, Type, Value};
 
 use super::collisions;
-use super::draft::{base_value, int, Draft};
+use super::draft::{base_value, int, small_int, Draft};
 use super::rng::Rng;
+use super::sums;
 use super::writer::{apply, literal, number, unit_of_length, wrapped, Writer};
 use crate::write::{if_else, of};
 
 /// A sheet of some family. Nearly all are accepted.
 pub fn draft(rng: &mut Rng) -> Draft {
-    match rng.below(40) {
+    match rng.below(42) {
         0..=11 => random_sheet(rng, false),
         12..=18 => random_sheet(rng, true),
         19..=23 => chain(rng),
@@ -23,6 +24,7 @@ pub fn draft(rng: &mut Rng) -> Draft {
         34 | 35 => collisions::draft(rng),
         36 | 37 => tree(rng),
         38 => large(rng),
+        39 | 40 => sums::draft(rng),
         _ => Draft::default(),
     }
 }
@@ -76,7 +78,7 @@ fn random_sheet(rng: &mut Rng, circles: bool) -> Draft {
 
 /// A draft in which so many further attributes have the first numbers, the last, or any between. What stands before them are Units of nodes of kinds 0
 /// and 1.
-fn begun(rng: &mut Rng, attributes: usize) -> Draft {
+pub fn begun(rng: &mut Rng, attributes: usize) -> Draft {
     let mut draft = Draft::default();
     let room = MOST_ATTRIBUTES - attributes;
     let before = match rng.below(4) {
@@ -136,12 +138,12 @@ fn chain(rng: &mut Rng) -> Draft {
         .rules
         .push((1, total, apply(4, &[&number(1), &further])));
     if length > MOST_OPEN {
-        // The last of 64 forms that `dial` opens, and what is due inside it.
+        // The first of 64 forms that `dial` opens, and what is due inside the last: with that kept, the first is not too deep.
         let outer = rng.between(MOST_OPEN, length - 1) as u16;
         let inner = outer + 1 - MOST_OPEN as u16;
         for (node, attribute) in [(outer, dial), (inner, own), (inner, up), (inner - 1, dial)] {
             let question = of(&literal(Value::Node(Some(node))), attribute, &[0x10]);
-            draft.apart.push(question);
+            draft.questions.push(question);
         }
     }
     draft
@@ -170,11 +172,12 @@ fn countdown(rng: &mut Rng) -> Draft {
     draft
         .rules
         .push((0, odd, if_else(&done, &[0x11, 0], &other)));
+    // Of two questions 64 apart, one has what the other keeps due inside 64 forms.
     let least = rng.pick(&[0, 0, 1, 2, 30]);
     for above in [0, 63, 64, 65] {
         for attribute in [count, odd] {
             let question = of(&[0x13, 0, 0], attribute, &number(least + above));
-            draft.apart.push(question);
+            draft.questions.push(question);
         }
     }
     draft
@@ -249,7 +252,9 @@ fn hostile(rng: &mut Rng) -> Draft {
         2 => number(int(rng)),
         _ => vec![0x31],
     };
-    let fanned = wrapped(onward(wide), |inner| apply(4, &[&part, inner]));
+    // The sums soon leave Int, the differences seldom.
+    let code = rng.pick(&[4, 5]);
+    let fanned = wrapped(onward(wide), |inner| apply(code, &[&part, inner]));
     let rules = [
         (deep, nested, 0x31),
         (walk, walked, 0x31),
@@ -277,6 +282,8 @@ fn tree(rng: &mut Rng) -> Draft {
     let least = draft.attribute(Base::Node, Base::Unit);
     let sum = draft.attribute(Base::Int, Base::Int);
     let nodes = rng.pick(&[3, 31, 255, 600, MOST_NODES - 1]);
+    // Sums of any Ints seldom fit.
+    let small = !rng.once_in(4);
     for place in 0..nodes {
         let inner = 2 * place + 2 < nodes;
         let node = draft.node(u8::from(inner));
@@ -285,7 +292,8 @@ fn tree(rng: &mut Rng) -> Draft {
                 draft.figures.push((node, side, Value::Node(Some(below))));
             }
         }
-        draft.figures.push((node, value, Value::Int(int(rng))));
+        let figure = if small { small_int(rng) } else { int(rng) };
+        draft.figures.push((node, value, Value::Int(figure)));
     }
     for side in [left, right] {
         draft.rules.push((0, side, literal(Value::Node(None))));
@@ -303,6 +311,10 @@ fn tree(rng: &mut Rng) -> Draft {
     draft
         .rules
         .push((1, sum, apply(4, &[&sum_of(left), &sum_of(right)])));
+    // Of a large tree they fill every store.
+    let root = literal(Value::Node(Some(0)));
+    let parameter = number(small_int(rng));
+    draft.questions = vec![of(&root, least, &[0x10]), of(&root, sum, &parameter)];
     draft
 }
 
@@ -378,7 +390,7 @@ mod tests {
         let mut store = vec![0; 12 * 1_024];
         let (mut kept, mut number) = (0, 0);
         for &place in questions {
-            let question = &draft.apart[place];
+            let question = &draft.questions[place];
             let answer = ask_accepted(&read, &mut store, kept, question, MOST_STEPS);
             (kept, number) = (answer.kept as u64, answer.number);
         }
@@ -390,7 +402,7 @@ mod tests {
         let alone = &questions[questions.len() - 1..];
         (0..240)
             .map(|number| family(&mut Rng::new(3, number)))
-            .filter(|draft| !draft.apart.is_empty() && last_number(draft, alone) == 16)
+            .filter(|draft| !draft.questions.is_empty() && last_number(draft, alone) == 16)
             .filter(|draft| last_number(draft, questions) == 0)
             .count()
     }
@@ -414,6 +426,7 @@ mod tests {
                 hostile(rng),
                 collisions::draft(rng),
                 tree(rng),
+                sums::draft(rng),
             ] {
                 let read = Sheet::read(&draft.bytes());
                 assert!(read.is_ok(), "{:?}", read.err());

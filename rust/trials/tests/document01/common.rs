@@ -1,8 +1,14 @@
 //! Sheets and questions that several tests use.
 
 use crate::ask;
+use oracle::ask::read_question;
+use oracle::plain::{self, Ending};
+use oracle::sheet::Sheet;
 pub use trials::write::*;
 use trials::Answer;
+
+/// The greatest budget.
+pub const MOST: u64 = 1_000_000;
 
 /// L6: equal(D)(D).
 pub fn l6() -> Vec<u8> {
@@ -12,6 +18,11 @@ pub fn l6() -> Vec<u8> {
 /// L10: own of (node 0's up).
 pub fn l10() -> Vec<u8> {
     of(&of(&node_literal(0), UP, &UNIT), OWN, &UNIT)
+}
+
+/// L13: add(2,147,483,647)(1).
+pub fn l13() -> Vec<u8> {
+    binary(ADD, &int(i32::MAX), &int(1))
 }
 
 /// One node and one Int attribute, defined as itself.
@@ -44,6 +55,13 @@ impl Lent {
         self.kept = answer.kept as u64;
         answer
     }
+}
+
+/// What plain Saiga comes to, within a limit of steps.
+pub fn plain_ending(sheet: &[u8], question: &[u8], limit: u64) -> Ending {
+    let sheet = Sheet::read(sheet).expect("an accepted sheet");
+    let question = read_question(question, &sheet).expect("an accepted question");
+    plain::run(&sheet, &question, limit)
 }
 
 /// The answer with a new store of 1,024.

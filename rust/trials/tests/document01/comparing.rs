@@ -9,8 +9,6 @@ use trials::shrink::shrink;
 use trials::soak::soak;
 use trials::{compare, demand3, Answer, Call, Oracle};
 
-const MOST: u64 = 1_000_000;
-
 fn case(capacity: usize, questions: &[Vec<u8>]) -> Case {
     Case {
         sheet: sheet_l(),
@@ -50,12 +48,16 @@ fn brought(fields: [i64; 6]) -> Answer {
     Answer::new(fields, tally)
 }
 
-/// Whether `compare` and `demand3` let an engine by on sheet L.
-fn let_by(mut engine: impl FnMut(Call) -> Answer) -> (bool, Option<&'static str>) {
-    let case = l_case(5);
-    let compared = compare(&mut engine, &case).is_ok();
-    let violated = demand3(&mut engine, &case).err();
+/// Whether `compare` and `demand3` let an engine by on a list.
+fn let_by_on(case: &Case, mut engine: impl FnMut(Call) -> Answer) -> (bool, Option<&'static str>) {
+    let compared = compare(&mut engine, case).is_ok();
+    let violated = demand3(&mut engine, case).err();
     (compared, violated.map(|violation| violation.part))
+}
+
+/// The same on sheet L.
+fn let_by(engine: impl FnMut(Call) -> Answer) -> (bool, Option<&'static str>) {
+    let_by_on(&l_case(5), engine)
 }
 
 #[test]
@@ -68,7 +70,7 @@ fn the_oracle_passes_and_is_counted() {
     for part in ['a', 'b', 'c', 'd'] {
         assert!(counts.checks[&*format!("demand 3 ({part})")] > 5, "{part}");
     }
-    assert_eq!(counts.unmet().len(), 14);
+    assert_eq!(counts.unmet().len(), 15);
 }
 
 #[test]
@@ -148,6 +150,111 @@ fn an_engine_that_uses_only_small_stores() {
         right(&mut call)
     };
     assert_eq!(let_by(small), (true, Some("demand 3 (c)")));
+}
+
+/// D; D and the Int that is one too many for it, where D is kept; and L13.
+fn overflow_case() -> Case {
+    let beyond = binary(ADD, &d(), &int(i32::MAX - 699));
+    case(5, &[d(), beyond, l13()])
+}
+
+/// The right answer to a call, but 15 where it is 17 with the whole budget used.
+fn late(call: &mut Call) -> Answer {
+    let given = right(call);
+    let spent = given.steps as u64 == call.budget;
+    match given.number {
+        17 if spent => Answer {
+            number: 15,
+            ..given
+        },
+        _ => given,
+    }
+}
+
+#[test]
+fn an_engine_that_tests_overflow_after_spent() {
+    // Demand 3 tries the budgets at which the two are due together, and the list's own are larger.
+    let by = let_by_on(&overflow_case(), |mut call: Call| late(&mut call));
+    assert_eq!(by, (true, Some("demand 3 (a)")));
+}
+
+#[test]
+fn engines_that_give_a_sum_beyond_the_end_a_value() {
+    // The end itself, or the sum without its highest bits.
+    for value in [i64::from(i32::MAX), i64::from(i32::MIN)] {
+        let valued = |mut call: Call| {
+            let given = late(&mut call);
+            let mut tally = given.tally;
+            tally[32] += 1;
+            match given.number {
+                17 => Answer::new([0, 0, 2, value, given.steps + 1, given.kept], tally),
+                _ => given,
+            }
+        };
+        // With D kept, the value comes within fewer steps than plain Saiga takes to overflow.
+        let by = let_by_on(&overflow_case(), valued);
+        assert_eq!(by, (false, Some("demand 3 (b)")));
+        let by = let_by_on(&case(5, &[l13()]), valued);
+        assert_eq!(by, (false, Some("demand 3 (a)")));
+    }
+}
+
+#[test]
+fn an_engine_that_counts_the_step_of_a_sum_that_does_not_fit() {
+    let counting = |mut call: Call| {
+        let mut given = right(&mut call);
+        if given.number == 17 {
+            given.steps += 1;
+            given.tally[32] += 1;
+        }
+        given
+    };
+    let by = let_by_on(&overflow_case(), counting);
+    assert_eq!(by, (false, Some("demand 3 (a)")));
+}
+
+#[test]
+fn an_engine_that_takes_the_end_itself_for_overflow() {
+    let end = case(5, &[binary(ADD, &int(i32::MAX - 1), &int(1))]);
+    let narrow = |mut call: Call| {
+        let given = right(&mut call);
+        match given.value {
+            2_147_483_647 => brought([17, 0, 0, 0, 1, given.kept]),
+            _ => given,
+        }
+    };
+    let by = let_by_on(&end, narrow);
+    assert_eq!(by, (false, Some("demand 3 (a)")));
+}
+
+#[test]
+fn an_engine_that_keeps_what_overflow_left_open() {
+    // An attribute that is L13.
+    let sheet = [
+        attribute(INT_TYPE, UNIT_TYPE),
+        node(0),
+        rule(0, 0, &l13()),
+        end(),
+    ]
+    .concat();
+    let question = of(&node_literal(0), 0, &UNIT);
+    let list = Case {
+        sheet,
+        ..case(5, &[question.clone(), question])
+    };
+    let keeping = |mut call: Call| {
+        let given = right(&mut call);
+        match given.number {
+            17 => {
+                call.store[..12].copy_from_slice(&entry(0, 0, INT_TYPE, 0, i32::MAX));
+                Answer { kept: 1, ..given }
+            }
+            _ => given,
+        }
+    };
+    // The second question has a value then, within a budget that plain Saiga needs more than to overflow.
+    let by = let_by_on(&list, keeping);
+    assert_eq!(by, (false, Some("demand 3 (b)")));
 }
 
 #[test]

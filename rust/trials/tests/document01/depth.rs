@@ -3,8 +3,6 @@
 use crate::common::*;
 use trials::Answer;
 
-const MOST: u64 = 1_000_000;
-
 /// A chain of `length` nodes. Attribute 1 is the node before, null at node 0; attribute 0 is that of the node before,
 /// 5 at node 0.
 fn chain(length: u16) -> Vec<u8> {

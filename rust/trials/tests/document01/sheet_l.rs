@@ -1,19 +1,9 @@
-//! Document 01, "Sheet L and its questions" and "Likely misreadings".
+//! Document 01, "Sheet L and its questions" and "Likely misreadings"; L13 as document 02, F-4, has it.
 
 use crate::ask;
 use crate::common::*;
-use oracle::ask::read_question;
-use oracle::plain::{self, Ending};
-use oracle::sheet::Sheet;
+use oracle::plain::Ending;
 use oracle::values::Value;
-
-const MOST: u64 = 1_000_000;
-
-fn plain_ending(sheet: &[u8], question: &[u8], limit: u64) -> Ending {
-    let sheet = Sheet::read(sheet).expect("an accepted sheet");
-    let question = read_question(question, &sheet).expect("an accepted question");
-    plain::run(&sheet, &question, limit)
-}
 
 #[test]
 fn sheet_l_has_103_bytes() {
@@ -117,9 +107,9 @@ fn l12_is_depth_or_spent() {
 }
 
 #[test]
-fn l13_is_held_at_the_end() {
-    let given = fresh(&sheet_l(), &binary(4, &int(i32::MAX), &int(1)), MOST);
-    assert_eq!(given.fields(), [0, 0, 2, 2_147_483_647, 2, 0]);
+fn l13_stops_after_1_step() {
+    let given = fresh(&sheet_l(), &l13(), MOST);
+    assert_eq!(given.fields(), [17, 0, 0, 0, 1, 0]);
 }
 
 #[test]
@@ -150,7 +140,7 @@ fn the_report_programs_four_lines() {
 }
 
 #[test]
-fn plain_saiga_on_d_l6_l10_and_l12() {
+fn plain_saiga_on_d_l6_l10_l12_and_l13() {
     let seven_hundred = Value::Int(700);
     assert_eq!(
         plain_ending(&sheet_l(), &d(), 8),
@@ -161,8 +151,10 @@ fn plain_saiga_on_d_l6_l10_and_l12() {
         plain_ending(&sheet_l(), &l6(), MOST),
         Ending::Value(Value::Bool(true), 18)
     );
-    assert_eq!(plain_ending(&sheet_l(), &l10(), 1), Ending::Null(1));
-    assert_eq!(plain_ending(&sheet_l(), &l10(), 0), Ending::Running(0));
+    for (question, ending) in [(l10(), Ending::Null(1)), (l13(), Ending::Overflow(1))] {
+        assert_eq!(plain_ending(&sheet_l(), &question, 1), ending);
+        assert_eq!(plain_ending(&sheet_l(), &question, 0), Ending::Running(0));
+    }
     let question = of(&node_literal(0), 0, &UNIT);
     assert_eq!(
         plain_ending(&sheet_l12(), &question, MOST),

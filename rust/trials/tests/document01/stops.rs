@@ -1,10 +1,8 @@
-//! Document 01, "Stops by origin": each stop, its place, and the order among them. `depth` has stop 16.
+//! Document 01, "Stops by origin": each stop, its place, and the order among them. `depth` has stop 16, and `overflow` stop 17 of document 02.
 
 use crate::ask;
 use crate::common::*;
 use trials::Answer;
-
-const MOST: u64 = 1_000_000;
 
 /// Number and place of the stop that a sheet brings; store and kept stay as lent, and no row has steps.
 fn refused(sheet: &[u8]) -> (i64, i64) {

@@ -1,9 +1,7 @@
-//! Document 02, F-2: the rows of the tally, which is brought whole by values and by stops 14 to 16, and is zeros under stops 1 to 13.
+//! Document 02, F-2: the rows of the tally, which is brought whole by values and by stops 14 to 17, and is zeros under stops 1 to 13.
 
 use crate::ask;
 use crate::common::*;
-
-const MOST: u64 = 1_000_000;
 
 const APPLICATIONS: usize = 32;
 const CONDITIONS: usize = 33;
@@ -85,9 +83,9 @@ fn l10_to_l13() {
         let l12 = alone(1_024, &sheet_l12(), &itself, budget);
         assert_eq!(l12, (number, rows(&[(0, 64)])));
     }
-    let l13 = binary(ADD, &int(i32::MAX), &int(1));
-    let l13 = alone(1_024, &sheet_l(), &l13, MOST);
-    assert_eq!(l13, (0, of_l([0, 0, 0, 2, 0])));
+    // The AppApp that has both arguments is not taken.
+    let l13 = alone(1_024, &sheet_l(), &l13(), MOST);
+    assert_eq!(l13, (17, of_l([0, 0, 0, 1, 0])));
 }
 
 /// As many attributes as there can be, all Int with Unit parameter, of one node: each is 7 by a rule.
@@ -267,6 +265,32 @@ fn stop_16_brings_the_tally_so_far() {
         assert_eq!(alone(1_024, &sheet, &question, budget), (16, taken));
     }
     assert_eq!(alone(1_024, &sheet, &question, 384), (15, taken));
+}
+
+#[test]
+fn stop_17_brings_the_tally_so_far() {
+    // Attribute 31 is the lowest Int less attribute 30, which is 1 by an IF.
+    let less = binary(SUBTRACT, &int(i32::MIN), &of(&THIS, 30, &UNIT));
+    let sheet = [
+        attribute(INT_TYPE, UNIT_TYPE).repeat(32),
+        node(0),
+        (0..30).flat_map(|number| figure(0, number, 0)).collect(),
+        rule(0, 30, &if_else(&TRUE, &int(1), &int(0))),
+        rule(0, 31, &less),
+        end(),
+    ]
+    .concat();
+    let question = binary(LE, &int(0), &of(&node_literal(0), 31, &UNIT));
+    // Le's first AppApp, attribute 31, subtract's first, attribute 30 and its CondTrue.
+    let taken = rows(&[(30, 1), (31, 1), (APPLICATIONS, 2), (CONDITIONS, 1)]);
+    for budget in [5, 6, MOST] {
+        assert_eq!(alone(1, &sheet, &question, budget), (17, taken));
+    }
+    // Attribute 30 is kept then, and its IF is not taken again.
+    let mut lent = Lent::new(1);
+    assert_eq!(tallied(&mut lent, &sheet, &question, MOST), (17, taken));
+    let again = rows(&[(30, 1), (31, 1), (APPLICATIONS, 2)]);
+    assert_eq!(tallied(&mut lent, &sheet, &question, 4), (17, again));
 }
 
 #[test]
