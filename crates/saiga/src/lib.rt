@@ -34,9 +34,9 @@ pub enum Value {
     Holding(Holding),
 }
 
-// A sum or a difference: an Int, or beyond its ends.
+// A sum or a difference: an Int, in the 64 bits in which it was made, or beyond the ends of Int.
 pub enum Sum {
-    Fits(i32),
+    Fits(i64),
     Overflow,
 }
 

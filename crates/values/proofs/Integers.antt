@@ -1,6 +1,6 @@
 -- Facts on integers that the code's sums, differences, tests and casts ask for. `mag z` is n both for n and for -(n + 1), and an
 -- Int is an integer with `mag` below 2^31.
-use mathlib.Core.Bool.{Bool, true, false, cond, true≢false}
+use mathlib.Core.Bool.{Bool, true, false, cond, _||_, true≢false}
 use mathlib.Core.Path.{_≡_, refl, sym, ap, ap₂, _∙_}
 use Prim.Native.Nat.{ℕ, zero, suc, _+_, _-_, _^_, _≤_, _<_}
 use native.Mathlib.Nat.{not-suc-le-zero}
@@ -93,6 +93,16 @@ within-fits : (z : ℤ) → ltZ z lowest ≡ false → ltZ highest z ≡ false �
 within-fits (pos n) p q = record { sfits = omega (arith, ltb-false 2147483647 n q) }
 within-fits (negsuc n) p q = record { sfits = omega (arith, ltb-false 2147483647 n p) }
 
+-- What is told to fit is an Int.
+pub told-fits : (w z : ℤ) → exact w ≡ Fits z → SFits w32 z
+unfolding exact
+told-fits w z = go (ltZ w lowest) refl (ltZ highest w) refl
+  where
+    go : (a : Bool) → ltZ w lowest ≡ a → (b : Bool) → ltZ highest w ≡ b → cond (a || b) beyond (Fits w) ≡ Fits z → SFits w32 z
+    go true l b h e = absurd (let z : _≡_ {A = ℕ} 0 1 = cc in omega arith)
+    go false l true h e = absurd (let z : _≡_ {A = ℕ} 0 1 = cc in omega arith)
+    go false l false h e = let same : w ≡ z = cc in rw same at (within-fits w l h)
+
 -- The tests of the bits of z say beyond which end it lies, if beyond any.
 module _ (z : ℤ) (fits : SFits w64 z) where
   pub too-low : ltZ (toZ w64 (ofZ w64 z)) lowest ≡ true → beyond ≡ exact z
@@ -104,13 +114,9 @@ module _ (z : ℤ) (fits : SFits w64 z) where
     unfolding exact
     too-high t = rw (rw (toZ-ofZ fits) at above, rw (toZ-ofZ fits) at t)
 
-    module _ (below : ltZ highest (toZ w64 (ofZ w64 z)) ≡ false) where
-      pub an-int : SFits w32 (toZ w64 (ofZ w64 z))
-      an-int = within-fits _ above below
-
-      pub exact-int : Fits (toZ w32 (ofZ w32 (toZ w64 (ofZ w64 z)))) ≡ exact z
-      unfolding exact
-      exact-int = ap Fits (toZ-ofZ an-int ∙ toZ-ofZ fits) ∙ rw (rw (toZ-ofZ fits) at above, rw (toZ-ofZ fits) at below)
+    pub between : ltZ highest (toZ w64 (ofZ w64 z)) ≡ false → Fits (toZ w64 (ofZ w64 z)) ≡ exact z
+    unfolding exact
+    between t = ap Fits (toZ-ofZ fits) ∙ rw (rw (toZ-ofZ fits) at above, rw (toZ-ofZ fits) at t)
 
 -- Two Ints are equal where their bits are.
 pub equal-bits : (y z : ℤ) → mag y < 2 ^ 31 → mag z < 2 ^ 31 → eqb (ofZ w32 y) (ofZ w32 z) ≡ equalZ y z

@@ -34,7 +34,7 @@ fn exact(z: i64) -> Sum
     if z < -2147483648 || 2147483647 < z {
         return Sum::Overflow;
     }
-    Sum::Fits(z as i32)
+    Sum::Fits(z)
 }
 
 // Add and subtract. No sum or difference of two Ints leaves 64 bits, so the result that is tested is the exact one.
@@ -113,13 +113,13 @@ fn apply_holding(h: Holding, x: Value) -> Applied
             let Sum::Fits(z) = add(y, number(x)) else {
                 return Applied::Overflow;
             };
-            Applied::Gives(Value::Int(z))
+            Applied::Gives(Value::Int(z as i32))
         }
         Holding::Subtract(y) => {
             let Sum::Fits(z) = subtract(y, number(x)) else {
                 return Applied::Overflow;
             };
-            Applied::Gives(Value::Int(z))
+            Applied::Gives(Value::Int(z as i32))
         }
     }
 }

@@ -5,7 +5,7 @@ use oracle::ask::read_question;
 use oracle::plain::{self, Ending};
 use oracle::sheet::Sheet;
 pub use trials::write::*;
-use trials::Answer;
+use trials::{Answer, Call};
 
 /// The greatest budget.
 pub const MOST: u64 = 1_000_000;
@@ -67,4 +67,15 @@ pub fn plain_ending(sheet: &[u8], question: &[u8], limit: u64) -> Ending {
 /// The answer with a new store of 1,024.
 pub fn fresh(sheet: &[u8], question: &[u8], budget: u64) -> Answer {
     Lent::new(1_024).ask(sheet, question, budget)
+}
+
+/// The answer to a call as it stands.
+pub fn answer_to(call: &mut Call) -> Answer {
+    ask(
+        call.sheet,
+        call.store,
+        call.kept,
+        call.question,
+        call.budget,
+    )
 }

@@ -3,7 +3,6 @@
 use std::slice::from_ref;
 
 use crate::common::*;
-use oracle::ask;
 use trials::case::{read_lists, Ask, Case};
 use trials::shrink::shrink;
 use trials::soak::soak;
@@ -28,17 +27,6 @@ fn case(capacity: usize, questions: &[Vec<u8>]) -> Case {
 fn l_case(capacity: usize) -> Case {
     let dial = of(&node_literal(2), DIAL, &UNIT);
     case(capacity, &[d(), d(), dial, l10(), vec![0x30], int(5)])
-}
-
-/// The right answer to a call.
-fn right(call: &mut Call) -> Answer {
-    ask(
-        call.sheet,
-        call.store,
-        call.kept,
-        call.question,
-        call.budget,
-    )
 }
 
 /// An answer with all its steps in the first row.
@@ -89,7 +77,7 @@ fn an_engine_that_turns_every_question_down() {
 fn an_engine_that_never_writes_its_store() {
     let forgetful = |call: Call| Answer {
         kept: call.kept as i64,
-        ..right(&mut Call {
+        ..answer_to(&mut Call {
             store: &mut call.store.to_vec(),
             ..call
         })
@@ -100,7 +88,7 @@ fn an_engine_that_never_writes_its_store() {
 #[test]
 fn an_engine_with_an_invented_step_count() {
     let inventing = |mut call: Call| {
-        let mut given = right(&mut call);
+        let mut given = answer_to(&mut call);
         given.steps += 1;
         given.tally[0] += 1;
         given
@@ -119,7 +107,7 @@ fn engines_that_say_spent_or_depth_on_arrival() {
 #[test]
 fn an_engine_that_keeps_wrong_values() {
     let wrong = |mut call: Call| {
-        let given = right(&mut call);
+        let given = answer_to(&mut call);
         if given.kept == 5 {
             call.store[4 * 12 + 8] ^= 1;
         }
@@ -131,7 +119,7 @@ fn an_engine_that_keeps_wrong_values() {
 #[test]
 fn an_engine_that_scribbles_past_the_kept_entries() {
     let scribbling = |mut call: Call| {
-        let given = right(&mut call);
+        let given = answer_to(&mut call);
         if let Some(last) = call.store.last_mut() {
             *last = call.budget as u8;
         }
@@ -147,7 +135,7 @@ fn an_engine_that_uses_only_small_stores() {
             call.store = &mut [];
             call.kept = 0;
         }
-        right(&mut call)
+        answer_to(&mut call)
     };
     assert_eq!(let_by(small), (true, Some("demand 3 (c)")));
 }
@@ -160,7 +148,7 @@ fn overflow_case() -> Case {
 
 /// The right answer to a call, but 15 where it is 17 with the whole budget used.
 fn late(call: &mut Call) -> Answer {
-    let given = right(call);
+    let given = answer_to(call);
     let spent = given.steps as u64 == call.budget;
     match given.number {
         17 if spent => Answer {
@@ -202,7 +190,7 @@ fn engines_that_give_a_sum_beyond_the_end_a_value() {
 #[test]
 fn an_engine_that_counts_the_step_of_a_sum_that_does_not_fit() {
     let counting = |mut call: Call| {
-        let mut given = right(&mut call);
+        let mut given = answer_to(&mut call);
         if given.number == 17 {
             given.steps += 1;
             given.tally[32] += 1;
@@ -217,7 +205,7 @@ fn an_engine_that_counts_the_step_of_a_sum_that_does_not_fit() {
 fn an_engine_that_takes_the_end_itself_for_overflow() {
     let end = case(5, &[binary(ADD, &int(i32::MAX - 1), &int(1))]);
     let narrow = |mut call: Call| {
-        let given = right(&mut call);
+        let given = answer_to(&mut call);
         match given.value {
             2_147_483_647 => brought([17, 0, 0, 0, 1, given.kept]),
             _ => given,
@@ -243,7 +231,7 @@ fn an_engine_that_keeps_what_overflow_left_open() {
         ..case(5, &[question.clone(), question])
     };
     let keeping = |mut call: Call| {
-        let given = right(&mut call);
+        let given = answer_to(&mut call);
         match given.number {
             17 => {
                 call.store[..12].copy_from_slice(&entry(0, 0, INT_TYPE, 0, i32::MAX));
@@ -261,7 +249,7 @@ fn an_engine_that_keeps_what_overflow_left_open() {
 fn an_engine_that_goes_beyond_plain_saiga() {
     // An attribute defined as itself, answered with 0 where depth is due.
     let mut engine = |mut call: Call| {
-        let given = right(&mut call);
+        let given = answer_to(&mut call);
         match given.number {
             16 => brought([0, 0, 2, 0, given.steps, given.kept]),
             _ => given,
@@ -279,7 +267,7 @@ fn an_engine_that_goes_beyond_plain_saiga() {
 fn with_capacity_0_the_steps_are_plain_saigas_own() {
     // Null is met before the parameter is stepped: fewer steps than plain Saiga's 1, which demand 3 lets by.
     let hasty = |mut call: Call| {
-        let given = right(&mut call);
+        let given = answer_to(&mut call);
         match given.number {
             14 | 15 => brought([14, 0, 0, 0, 0, given.kept]),
             _ => given,
@@ -297,7 +285,7 @@ fn with_capacity_0_the_steps_are_plain_saigas_own() {
 fn an_engine_that_tallies_nothing() {
     let untold = |mut call: Call| Answer {
         tally: [0; 34],
-        ..right(&mut call)
+        ..answer_to(&mut call)
     };
     assert_eq!(let_by(untold), (false, Some("tally")));
 }
@@ -306,7 +294,7 @@ fn an_engine_that_tallies_nothing() {
 fn an_engine_that_does_not_clear_the_tally_under_a_refusal() {
     let mut before = [0; 34];
     let uncleared = |mut call: Call| {
-        let mut given = right(&mut call);
+        let mut given = answer_to(&mut call);
         if given.number == 12 {
             given.tally = before;
         }
@@ -322,7 +310,7 @@ fn engines_with_steps_in_other_rows() {
     let rows: [fn(usize) -> usize; 2] = [|row| row + usize::from(row < 31), |row| row.min(32)];
     for row_of in rows {
         let misplacing = |mut call: Call| {
-            let given = right(&mut call);
+            let given = answer_to(&mut call);
             let mut tally = [0; 34];
             for (row, steps) in given.tally.into_iter().enumerate() {
                 tally[row_of(row)] += steps;
@@ -336,7 +324,7 @@ fn engines_with_steps_in_other_rows() {
 #[test]
 fn part_d_is_of_the_tally_too() {
     let by_budget = |mut call: Call| {
-        let mut given = right(&mut call);
+        let mut given = answer_to(&mut call);
         if call.budget > 77 {
             given.tally.swap(0, 1);
         }
@@ -348,7 +336,7 @@ fn part_d_is_of_the_tally_too() {
 #[test]
 fn a_mismatch_of_tallies_is_shown_in_words() {
     let mut engine = |mut call: Call| {
-        let mut given = right(&mut call);
+        let mut given = answer_to(&mut call);
         given.tally.swap(1, 31);
         given
     };
@@ -366,7 +354,7 @@ fn a_mismatch_of_tallies_is_shown_in_words() {
 #[test]
 fn part_d_is_tried_from_wrong_stores_and_refused_sheets_too() {
     let by_budget = |mut call: Call| {
-        let given = right(&mut call);
+        let given = answer_to(&mut call);
         Answer {
             value: given.value + i64::from(call.budget > 77),
             ..given
@@ -388,7 +376,7 @@ fn part_d_is_tried_from_wrong_stores_and_refused_sheets_too() {
 #[test]
 fn a_mismatch_says_where_and_shrinks() {
     let mut engine = |mut call: Call| {
-        let given = right(&mut call);
+        let given = answer_to(&mut call);
         if given.value == 811 {
             call.store[5 * 12] ^= 4;
         }
@@ -412,7 +400,7 @@ fn a_mismatch_says_where_and_shrinks() {
 #[test]
 fn a_soak_ends_with_a_shrunk_list_that_can_be_replayed() {
     let mut engine = |mut call: Call| {
-        let given = right(&mut call);
+        let given = answer_to(&mut call);
         Answer {
             kept: given.kept + i64::from(given.number == 16),
             ..given

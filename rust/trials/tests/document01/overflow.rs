@@ -5,7 +5,7 @@ use crate::ask;
 use crate::common::*;
 use oracle::plain::Ending;
 use oracle::values::Value;
-use trials::{demand3, Answer, Ask, Call, Case};
+use trials::{demand3, Ask, Call, Case};
 
 const LEAST: i32 = i32::MIN;
 const GREATEST: i32 = i32::MAX;
@@ -49,6 +49,17 @@ const DO_NOT_FIT: [(u8, i32, i32); 13] = [
 
 fn of_ints(code: u8, first: i32, second: i32) -> Vec<u8> {
     binary(code, &int(first), &int(second))
+}
+
+/// Node 0 with one attribute, an Int with an Int parameter, and its rule.
+fn ruled(expr: &[u8]) -> Vec<u8> {
+    [
+        attribute(INT_TYPE, INT_TYPE),
+        node(0),
+        rule(0, 0, expr),
+        end(),
+    ]
+    .concat()
 }
 
 /// A question's answer with room for nothing, on the sheet that declares nothing.
@@ -243,13 +254,7 @@ fn the_part_that_is_due_first_decides_between_14_and_17() {
         assert_eq!(fields(&sum_first, MOST), [17, 0, 0, 0, 1, 0]);
     }
     // Null is met after the parameter, and the node before it.
-    let sheet = [
-        attribute(INT_TYPE, INT_TYPE),
-        node(0),
-        rule(0, 0, &PARAMETER),
-        end(),
-    ]
-    .concat();
+    let sheet = ruled(&PARAMETER);
     let given = fresh(&sheet, &of(&NULL, 0, &l13()), MOST);
     assert_eq!(given.fields(), [17, 0, 0, 0, 1, 0]);
     let null = if_else(&binary(LE, &int(0), &l13()), &NULL, &node_literal(0));
@@ -305,13 +310,7 @@ fn the_part_that_is_due_first_decides_between_16_and_17() {
 #[test]
 fn a_sum_that_does_not_fit_stops_wherever_it_stands() {
     // Attribute 0 is its parameter. The sum is due after 1 step of its own, and what stands before it.
-    let sheet = [
-        attribute(INT_TYPE, INT_TYPE),
-        node(0),
-        rule(0, 0, &PARAMETER),
-        end(),
-    ]
-    .concat();
+    let sheet = ruled(&PARAMETER);
     let echo = |node: &[u8], parameter: &[u8]| of(node, 0, parameter);
     let node = node_literal(0);
     let five = echo(&node, &int(5));
@@ -350,13 +349,7 @@ fn a_sum_that_does_not_fit_stops_wherever_it_stands() {
 /// Attribute 0 of p is attribute 0 of p and 1, or of p less 1: three steps in each form.
 fn climbing(code: u8) -> Vec<u8> {
     let further = binary(code, &PARAMETER, &int(1));
-    [
-        attribute(INT_TYPE, INT_TYPE),
-        node(0),
-        rule(0, 0, &of(&THIS, 0, &further)),
-        end(),
-    ]
-    .concat()
+    ruled(&of(&THIS, 0, &further))
 }
 
 /// The question that climbs to an end of Int from so far below the upper one, or above the lower one.
@@ -398,14 +391,7 @@ fn the_end_cannot_be_told_by_adding_to_it() {
     // Attribute 0 of p is p where p and 1 is no more than p, and else that of p and 1.
     let more = binary(ADD, &PARAMETER, &int(1));
     let at_end = binary(LE, &more, &PARAMETER);
-    let expr = if_else(&at_end, &PARAMETER, &of(&THIS, 0, &more));
-    let sheet = [
-        attribute(INT_TYPE, INT_TYPE),
-        node(0),
-        rule(0, 0, &expr),
-        end(),
-    ]
-    .concat();
+    let sheet = ruled(&if_else(&at_end, &PARAMETER, &of(&THIS, 0, &more)));
     // Each form but the last takes AttrApp, the sum's two, le's two, CondFalse, and the sum's two again.
     let question = of(&node_literal(0), 0, &int(GREATEST - 2));
     let given = fresh(&sheet, &question, MOST);
@@ -441,15 +427,7 @@ fn a_larger_store_brings_the_same_stop_in_no_more_steps() {
 
 /// Tries demand 3 on a list with stores of several capacities, and counts how often each part was tried.
 fn demand_3_holds(sheet: &[u8], asks: &[(Vec<u8>, u64)]) {
-    let mut engine = |call: Call| -> Answer {
-        ask(
-            call.sheet,
-            call.store,
-            call.kept,
-            call.question,
-            call.budget,
-        )
-    };
+    let mut engine = |mut call: Call| answer_to(&mut call);
     for capacity in [0, 1, 2, 5, 1_024] {
         let ask = |(question, budget): &(Vec<u8>, u64)| Ask {
             question: question.clone(),
