@@ -24,11 +24,12 @@ extern "C" {
 
 /* Scratch that a caller lends: of a checked sheet, of what is noted of it, of a checked store, and of a run. What they hold is the library's affair and
  * may change with it: a caller makes them, lends them, and looks at nothing inside. They need not be cleared: a call asks nothing of what they hold
- * but where it says so. */
+ * but where it says so. A run reads words of its sofretu_run that it has not written, and any values will do; so give it values once, when it is made
+ * (static storage, calloc or {0}), and never again. Memory that was never written has none by C's rules, and tools like valgrind tell of it. */
 #define SOFRETU_SHEET_WORDS 33282
 #define SOFRETU_SHEET_NOTES 65536
 #define SOFRETU_STORE_WORDS 9216
-#define SOFRETU_RUN_WORDS 8576
+#define SOFRETU_RUN_WORDS 10176
 
 typedef struct {
     uint16_t words[SOFRETU_SHEET_WORDS];
@@ -72,7 +73,7 @@ enum {
 
 /* The rows of a tally, which tells where an answer's counted steps went: attribute a has row a, and the two rows after those of the 32
  * attributes are named here. The rows add up to the answer's steps. A call that takes a `tally` writes all its rows, whatever they held: stops
- * 14 to 17 bring the steps before the stop, stops 1 to 13 zeros. */
+ * 14 to 17 and 20 bring the steps before the stop, stops 1 to 13 zeros. */
 #define SOFRETU_TALLY_ROWS 34
 
 enum {
@@ -102,10 +103,11 @@ enum {
     SOFRETU_NULL = 14,             /* an attribute of null was due */
     SOFRETU_SPENT = 15,            /* a counted step was due with the whole budget used */
     SOFRETU_DEPTH = 16,            /* an attribute that is not kept was due inside 64 open ones */
-    SOFRETU_OVERFLOW = 17          /* a sum or difference was due that lies outside Int, -2147483648 to 2147483647 */
+    SOFRETU_OVERFLOW = 17,         /* a sum or difference was due that lies outside Int, -2147483648 to 2147483647 */
+    SOFRETU_CIRCLE = 20            /* an attribute that is not kept was due inside itself: the same one of the same node with the same parameter */
 };
 
-/* One question with all its checks. Under stops 1 to 13 the store stays as it was lent. It makes its scratch on its stack and clears it, some 220 KB:
+/* One question with all its checks. Under stops 1 to 13 the store stays as it was lent. It makes its scratch on its stack and clears it, some 230 KB:
  * for a small sheet that takes longer than all the rest. sofretu_ask_in does the same in the caller's scratch, which need not be cleared. */
 void sofretu_ask(const uint8_t *sheet, uint64_t sheet_len,
                  const uint8_t *question, uint64_t question_len,
@@ -139,7 +141,7 @@ uint32_t sofretu_check_store(const uint8_t *sheet, uint64_t sheet_len,
                              const uint8_t *store, uint64_t store_len, uint64_t kept,
                              sofretu_checked_store *checked_store, uint64_t *place);
 
-/* A question to a checked sheet and a checked store: stops 11 to 17 are left. The number kept for the next question is the answer's.
+/* A question to a checked sheet and a checked store: stops 11 to 17 and 20 are left. The number kept for the next question is the answer's.
  * REQUIRES: `checked_sheet` and `noted_sheet` as sofretu_check_sheet left them when it accepted these sheet bytes; `checked_store` as
  * sofretu_check_store, when it accepted these store bytes with this `kept`, or an earlier call of this function left it.
  * With anything else the call has no meaning, and may read or write anywhere. Nothing is asked of `run`, which is as lent under stops 11 to 13 and

@@ -1,4 +1,4 @@
--- CacheWrite by its three cases, and the laws of the moves that end in it.
+-- CacheWrite of what is not kept, by whether the store is full, and the laws of the moves that end in it.
 use mathlib.Core.Bool.{Bool, true, false}
 use mathlib.Core.List.{List}
 use mathlib.Core.Option.{none}
@@ -13,11 +13,14 @@ use Rattle.saiga.specs.declared.Fields.{Fields}
 use Rattle.saiga.specs.declared.Value.{Value}
 use Rattle.stores.specs.declared.Key.{Key}
 use Rattle.stores.specs.declared.Found.{Found}
-use Rattle.stores.specs.declared.Found.the-variants.{Nothing, At}
-use Rattle.stores.specs.Walks.{Keyed, Free}
-use Rattle.stores.specs.Keys.{findKey, foundOf, FreeIn, keyIn, fieldsFor, EntryPut}
-use Rattle.stores.proofs.Searches.{nothing-found, found-at}
+use Rattle.stores.specs.declared.Found.the-variants.{Nothing}
+use Rattle.stores.specs.Walks.{Keyed, Free, Without}
+use Rattle.stores.specs.Keys.{Linked, findKey, foundOf, FreeIn, keyIn, fieldsFor, EntryPut}
+use Rattle.stores.proofs.Searches.{nothing-found}
+use Rattle.stores.proofs.Linked.{linked-without}
 use Rattle.engine.specs.declared.Registers.{Registers}
+use Rattle.engine.specs.Decode.{formsSize}
+use Rattle.engine.specs.OpenKeys.{formKey}
 use Rattle.engine.specs.Ready.{memoryOf, innermostPlace}
 use Rattle.engine.proofs.RunMemory.{form-at, node-fits, word-fits}
 use Rattle.engine.specs.Steps.{goes, appended, unlessFound, cacheWrite, closeForm}
@@ -26,6 +29,10 @@ use Rattle.attributes.specs.Due.{WriteReady, CloseReady}
 -- What is not found is not kept.
 pub not-kept : (store : List ℕ) (kept : ℕ) (q : Key) (r : Found) (cell : ℕ) → r ≡ Nothing cell → foundOf r ≡ findKey store kept q → findKey store kept q ≡ none
 not-kept store kept q r cell nothing found = nothing-found _ _ found refl nothing
+
+-- Then no entry of its index has the key,
+pub none-linked : (store links : List ℕ) (kept : ℕ) (q : Key) → WriteReady store links kept → Keyed q → findKey store kept q ≡ none → Without links q
+none-linked store links kept q ready keyed absent = linked-without store kept links q (ready .linked) keyed absent
 
 -- and its cell in the index is free
 pub free-cell : (links : List ℕ) (q : Key) (r : Found) (cell : ℕ) → r ≡ Nothing cell → FreeIn links q r → Free links q cell
@@ -55,15 +62,18 @@ module _ (store : List ℕ) (kept : ℕ) (full : Bool) (is : full ≡ leb (lengt
   unfolding cacheWrite
   write-full f taken = rw (sym is ∙ taken)
 
-  pub write-known : (q : Key) (v : Value) (r : Found) (j : ℕ) → full ≡ false → foundOf r ≡ findKey store kept q → r ≡ At j
-      → (store, kept) ≡ cacheWrite store kept (fieldsFor q v)
-  unfolding cacheWrite unlessFound keyIn fieldsFor
-  write-known q v r j room found at-j = rw (sym is ∙ room, found-at _ _ found refl _ at-j)
-
   pub write-new : (f : Fields) (store′ index′ : List ℕ) → full ≡ false → findKey store kept (keyIn f) ≡ none → EntryPut store kept f store′ index′
       → (store′, kept + 1) ≡ cacheWrite store kept f
   unfolding cacheWrite unlessFound appended
   write-new f store′ index′ room absent put = rw (sym is ∙ room, absent, put .bytes)
+
+  pub write-appends : (q : Key) (v : Value) (f : Fields) → f ≡ fieldsFor q v → (store′ index′ : List ℕ) → full ≡ false → findKey store kept q ≡ none
+      → EntryPut store kept f store′ index′ → (store′, kept + 1) ≡ cacheWrite store kept (fieldsFor q v)
+  write-appends q v f are store′ index′ room absent put =
+      writes-same store kept f (fieldsFor q v) (store′, kept + 1) are (write-new f store′ index′ room (fields-new q v f are store kept absent) put)
+
+  pub put-linked : (f : Fields) (store′ index′ : List ℕ) → EntryPut store kept f store′ index′ → Linked store′ (kept + 1) index′
+  put-linked f store′ index′ put = put .linked
 
   -- A store that is not full has room for an entry.
   module _ (room : full ≡ false) where
@@ -78,6 +88,15 @@ module _ (run : List ℕ) (m : Registers) (f : ℕ) (is : f ≡ innermostPlace m
   -- its occurrence
   abbrev closing : Key
   closing = record { node = getD run f 0 / 32; attribute = getD run f 0 % 32; word = getD run (f + 1) 0 }
+
+  -- it is not kept
+  pub form-absent : (store links : List ℕ) → CloseReady store links run m → findKey store (m .kept) closing ≡ none
+  unfolding formKey
+  form-absent store links ready =
+      let k = 4 * (m .forms - 1) in
+      let small : k + 1 < formsSize = omega (arith, ready .node .opened, ready .node .few) in
+      rw (form-at run k f is (omega arith), form-at run (k + 1) (f + 1) (omega (arith, is)) small)
+      (ready .not-kept)
 
   pub form-keyed : (store links : List ℕ) → CloseReady store links run m → Keyed closing
   form-keyed store links ready = record { node = node-fits run m f is (ready .node); attribute = omega arith; word = word-fits run m f is (ready .word-small) }
@@ -97,15 +116,16 @@ module _ (run : List ℕ) (m : Registers) (f : ℕ) (is : f ≡ innermostPlace m
       }
 
   -- It is closed with what CacheWrite leaves.
-  pub closes : (store store′ : List ℕ) (kept′ : ℕ) → (store′, kept′) ≡ cacheWrite store (m .kept) (fieldsFor closing (m .value))
+  pub closes : (store links store′ : List ℕ) (kept′ : ℕ) → CloseReady store links run m → (store′, kept′) ≡ cacheWrite store (m .kept) (fieldsFor closing (m .value))
       → goes (closed kept′) (memoryOf store′ run) ≡ closeForm (memoryOf store run) m
   unfolding closeForm
-  closes store store′ kept′ written =
+  closes store links store′ kept′ ready written =
       let k = 4 * (m .forms - 1) in
+      let small : k + 3 < formsSize = omega (arith, ready .node .opened, ready .node .few) in
       rw (
-        ← form-at run k f is,
-        ← form-at run (k + 1) (f + 1) (omega (arith, is)),
-        ← form-at run (k + 2) (f + 2) (omega (arith, is)),
-        ← form-at run (k + 3) (f + 3) (omega (arith, is)),
+        ← form-at run k f is (omega arith),
+        ← form-at run (k + 1) (f + 1) (omega (arith, is)) (omega arith),
+        ← form-at run (k + 2) (f + 2) (omega (arith, is)) (omega arith),
+        ← form-at run (k + 3) (f + 3) (omega (arith, is)) small,
       )
       (ap (λ (w : List ℕ × ℕ). goes (closed (w .1)) (memoryOf (w .0) run)) written)

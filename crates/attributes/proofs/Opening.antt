@@ -1,12 +1,12 @@
--- AttrApp by its cases: the rule's piece, the figure, the kept value, and the limits before them.
+-- AttrApp by its cases: the rule's piece, the figure, the kept value, and the stops before them.
 use mathlib.Core.Bool.{true, false}
-use mathlib.Core.List.{List}
-use mathlib.Core.Option.{Option, none}
+use mathlib.Core.List.{List, []}
+use mathlib.Core.Option.{Option, none, some}
 use mathlib.Core.Path.{_≡_, refl, ap, _∙_, sym}
-use Prim.Native.Nat.{ℕ, zero, suc, _+_, _*_, _-_, _≤_, _<_}
+use Prim.Native.Nat.{ℕ, zero, suc, _+_, _*_, _-_, _/_, _%_, _≤_, _<_}
 use native.Mathlib.Omega.{arith}
 use lib.ListN.{length, take, drop, getD, set, length-drop}
-use lib.Seq.{length-take-le}
+use lib.Seq.{length-take-le, take-set-le}
 use borrow.Author.Tests.{le-leb, lt-leb, ne-eqb}
 use Rattle.saiga.specs.Values.{baseOf, isWord, nodeOf, ofBytes, ofWord, toWord}
 use Rattle.saiga.specs.declared.Fields.{Fields}
@@ -24,56 +24,58 @@ use Rattle.stores.proofs.Searches.{nothing-found, found-at, found-below}
 use Rattle.values.specs.Packed.{valueIn}
 use Rattle.engine.specs.declared.Registers.{Registers}
 use Rattle.engine.specs.FrameWords.{formKind, heldAttribute, heldNode}
-use Rattle.engine.specs.Decode.{formPlace}
+use Rattle.engine.specs.Decode.{frameLimit, openCells, formPlace, formsIn, opensIn}
+use Rattle.engine.specs.OpenKeys.{formKey, keyOpen}
 use Rattle.engine.specs.Ready.{memoryOf}
-use Rattle.engine.specs.CodeSteps.{keptIn}
-use Rattle.engine.proofs.RunMemory.{form-opened}
-use Rattle.engine.specs.Steps.{Memory, Stepped, goes, waits, stops, answered, cacheWrite, openRule, openFigure, takeKept, attributeDue}
-use Rattle.attributes.specs.Due.{WriteReady, StepReady, RuleReady, AttributeReady}
+use Rattle.engine.specs.CodeSteps.{steppedOf, keptAfter, formsAfter, keptIn, Still}
+use Rattle.engine.specs.declared.Step.{Step}
+use Rattle.engine.specs.declared.Step.the-variants.{Goes, Waits, Finishes, Stops}
+use Rattle.engine.proofs.Limited.{within-goes, within-holds}
+use Rattle.engine.proofs.RunMemory.{forms-length, form-opened, form-beyond}
+use Rattle.engine.proofs.Attributes.{setFour, four-first, four-second}
+use Rattle.opens.specs.declared.Opening.{Opening}
+use Rattle.opens.specs.declared.Opening.the-variants.{Open, Closed}
+use Rattle.opens.specs.Opened.{Opened, FreeFor, isOpenIn, ClosedAt, planted, Plants}
+use Rattle.opens.proofs.Opened.{free-cell, opened-more}
+use Rattle.engine.specs.Steps.{Memory, Stepped, goes, waits, finishes, stops, answered, cacheWrite, within, limited, openRule, keepsFigure, openFigure, ruleDue, takeKept, attributeDue}
+use Rattle.attributes.specs.Due.{StepReady, RuleReady, OpenReady, FoundReady, AttributeReady}
 
 -- ---- The figure, or the rule
 
-module _ (sheet index store links run : List ℕ) (m : Registers) (n a : ℕ) (ready : AttributeReady sheet index store links run m n a) where
-  -- A value can be answered: there is a frame to give it to, and the step can be counted.
-  pub answer-ready : (1 ≤ m .frames) × (m .steps + 1 < 18446744073709551616)
-  answer-ready = (ready .step .frame .framed, ready .step .counts)
-
-  -- Where no figure is found, there is a rule.
-  pub rule-ready : m .forms < 64 → (r : FoundFigure) → figureOf r ≡ indexed (getD index (figurePlace n a) 0) (figureAt sheet a) → r ≡ NoFigure
-      → RuleReady sheet index run m n a
+-- What the code found of the figure of a node and an attribute.
+module _ (sheet index : List ℕ) (n a : ℕ) (found : FoundFigure) (is : figureOf found ≡ indexed (getD index (figurePlace n a) 0) (figureAt sheet a)) where
+  -- Where it found none, there is a rule.
+  pub no-figure : found ≡ NoFigure → getD index (figurePlace n a) 0 ≡ 0
   unfolding indexed
-  rule-ready few r found is =
-      record {
-        rule = record { pair = ready .pair; ruled = ready .defined (go (getD index (figurePlace n a) 0) (sym found ∙ ap figureOf is)) };
-        step = ready .step;
-        few = few;
-      }
+  no-figure none-found = go (getD index (figurePlace n a) 0) (sym is ∙ ap figureOf none-found)
     where
       go : (j : ℕ) → indexed j (figureAt sheet a) ≡ none → j ≡ 0
       go zero e = refl
       go (suc j) e = absurd (let z : _≡_ {A = ℕ} 0 1 = cc in omega arith)
 
-module _ (sheet index store run : List ℕ) (m : Registers) (n a word : ℕ) (o : Option Value) (found : FoundFigure) (is : figureOf found ≡ o) where
-  pub opens : (run′ : List ℕ) (r : Registers) → found ≡ NoFigure
-      → ((s : List ℕ) → goes r (memoryOf s run′) ≡ openRule sheet index (memoryOf s run) m n a word)
-      → goes r (memoryOf store run′) ≡ openFigure sheet index (memoryOf store run) m n a word o
-  unfolding openFigure
-  opens run′ r no-figure opened = rw (sym is ∙ ap figureOf no-figure) (opened store)
+  pub some-figure : (v : Value) → found ≡ Of v → (at : ℕ) × (getD index (figurePlace n a) 0 ≡ suc at)
+  unfolding indexed
+  some-figure v of = go (getD index (figurePlace n a) 0) refl (sym is ∙ ap figureOf of)
+    where
+      go : (j : ℕ) → getD index (figurePlace n a) 0 ≡ j → indexed j (figureAt sheet a) ≡ some v → (at : ℕ) × (getD index (figurePlace n a) 0 ≡ suc at)
+      go zero e h = absurd (let z : _≡_ {A = ℕ} 0 1 = cc in omega arith)
+      go (suc j) e h = (j, e)
 
-  -- A figure is answered with what CacheWrite leaves.
-  pub answers : (v : Value) (r : Registers) (store′ : List ℕ) (kept′ : ℕ) (f : Fields) → found ≡ Of v → r ≡ answered m kept′ v
-      → f ≡ fieldsFor record { node = n; attribute = a; word = word } v → (store′, kept′) ≡ cacheWrite store (m .kept) f
-      → goes r (memoryOf store′ run) ≡ openFigure sheet index (memoryOf store run) m n a word o
-  unfolding openFigure
-  answers v r store′ kept′ f of by are written =
-      rw (by, sym is ∙ ap figureOf of) (ap (λ (w : List ℕ × ℕ). goes (answered m (w .1) v) (memoryOf (w .0) run)) (rw are at written))
+pub rule-indexed : (sheet index store links run : List ℕ) (m : Registers) (n a : ℕ) → AttributeReady sheet index store links run m n a → (found : FoundFigure)
+    → figureOf found ≡ indexed (getD index (figurePlace n a) 0) (figureAt sheet a) → found ≡ NoFigure → IndexedRule sheet index n a
+rule-indexed sheet index store links run m n a ready found is none-found =
+    record { pair = ready .pair; ruled = ready .defined (no-figure sheet index n a found is none-found) }
 
--- A rule keeps nothing when it opens.
-pub opening-keeps : (sheet index store links run run′ : List ℕ) (m r : Registers) (n a word : ℕ)
-    → ((s : List ℕ) → goes r (memoryOf s run′) ≡ openRule sheet index (memoryOf s run) m n a word) → Linked store (m .kept) links
-    → Linked store (r .kept) links
-unfolding openRule
-opening-keeps sheet index store links run run′ m r n a word opened linked = rw (ap (keptIn 0) (opened store)) linked
+-- A figure is answered with what CacheWrite leaves.
+pub figure-kept : (store run : List ℕ) (m : Registers) (q : Key) (v : Value) (r : Registers) (store′ : List ℕ) (kept′ : ℕ) (f : Fields) → r ≡ answered m kept′ v
+    → f ≡ fieldsFor q v → (store′, kept′) ≡ cacheWrite store (m .kept) f
+    → goes r (memoryOf store′ run) ≡ keepsFigure (memoryOf store run) m (q .node) (q .attribute) (q .word) v
+figure-kept store run m q v r store′ kept′ f by are written =
+    rw by (ap (λ (w : List ℕ × ℕ). goes (answered m (w .1) v) (memoryOf (w .0) run)) (rw are at written))
+
+-- the number of open forms stays
+pub answer-forms : (m r : Registers) (v : Value) (kept : ℕ) → r ≡ answered m kept v → r .forms ≡ m .forms
+answer-forms m r v kept by = ap (λ m. m .forms) by
 
 pub step-fits : (run : List ℕ) (m : Registers) → StepReady run m → m .steps + 1 < 18446744073709551616
 step-fits run m ready = ready .counts
@@ -98,94 +100,288 @@ module _ (sheet index : List ℕ) (n a : ℕ) (rule : IndexedRule sheet index n 
   pub rule-short : (start : ℕ) → start ≡ place + 4 → start + length piece < 18446744073709551616
   rule-short start starts = omega (arith, starts, piece-length, here .room, here .short)
 
-  pub rule-runs : (store run : List ℕ) (m : Registers) (word start f : ℕ) → StepReady run m → start ≡ place + 4 → f ≡ formPlace (m .forms)
-      → goes record {
-        returning = false;
-        at = start;
-        end = start + length piece;
-        frames = m .frames;
-        forms = m .forms + 1;
-        kept = m .kept;
-        steps = m .steps + 1;
-        value = m .value;
-      } (memoryOf store
-      (set (set (set (set (set run f (n * 32 + a)) (f + 1) word) (f + 2) (m .at)) (f + 3) (m .end)) (m .frames - 1) formKind))
-      ≡ openRule sheet index (memoryOf store run) m n a word
-  unfolding openRule
-  rule-runs store run m word start f ready starts is =
-      rw (
-        starts,
-        piece-length,
-        is,
-        form-opened run (m .forms) (n * 32 + a) word (m .at) (m .end) store (m .frames - 1) formKind
-            (omega (arith, ready .frame .inside, ready .frame .framed)),
-      )
+  -- The form's numbers are written, and its frame's word.
+  module _ (run : List ℕ) (m : Registers) (word f : ℕ) (few : m .forms < 64) (ready : StepReady run m) (f-is : f ≡ formPlace (m .forms)) where
+    abbrev written : List ℕ
+    written = set (set (set (set (set run f (n * 32 + a)) (f + 1) word) (f + 2) (m .at)) (f + 3) (m .end)) (m .frames - 1) formKind
+
+    top-inside : m .frames - 1 < frameLimit
+    top-inside = omega (arith, ready .frame .inside, ready .frame .framed)
+
+    pub rule-runs : (store : List ℕ) (start : ℕ) → start ≡ place + 4
+        → goes record {
+          returning = false;
+          at = start;
+          end = start + length piece;
+          frames = m .frames;
+          forms = m .forms + 1;
+          kept = m .kept;
+          steps = m .steps + 1;
+          value = m .value;
+        } (memoryOf store written)
+        ≡ openRule sheet index (memoryOf store run) m n a word
+    unfolding openRule
+    rule-runs store start starts =
+        rw (
+          starts,
+          piece-length,
+          f-is,
+          form-opened run (m .forms) (n * 32 + a) word (m .at) (m .end) few store (m .frames - 1) formKind top-inside,
+        )
+
+    pub rule-beyond : opensIn written ≡ opensIn run
+    rule-beyond = rw f-is (form-beyond run (m .forms) (n * 32 + a) word (m .at) (m .end) few (m .frames - 1) formKind top-inside)
+
+-- ---- The index of the open forms
+
+pub place-inside : (run : List ℕ) (m : Registers) (q : Key) (cell : ℕ) → OpenReady run m q cell → cell < openCells
+place-inside run m q cell ready = free-cell _ _ _ (ready .opened) q cell (ready .free)
+
+-- the forms that a move goes on with
+formsIn-of : List ℕ → Stepped → List ℕ
+formsIn-of was (goes m mem) = mem .forms
+formsIn-of was waits = was
+formsIn-of was finishes = was
+formsIn-of was (stops number) = was
+
+formsCount : ℕ → Stepped → ℕ
+formsCount was (goes m mem) = m .forms
+formsCount was waits = was
+formsCount was finishes = was
+formsCount was (stops number) = was
+
+-- The form that a rule opened has the key, and those around it are as they were: it is in the index.
+pub rule-opened : (sheet index run run′ run″ : List ℕ) (m r : Registers) (q : Key) (cell : ℕ) → OpenReady run m q cell
+    → RuleReady sheet index run m (q .node) (q .attribute)
+    → ((s : List ℕ) → goes r (memoryOf s run′) ≡ openRule sheet index (memoryOf s run) m (q .node) (q .attribute) (q .word))
+    → opensIn run′ ≡ opensIn run → Plants run′ run″ (m .forms) cell → Opened (formsIn run″) (opensIn run″) (r .forms)
+unfolding openRule formKey formsIn-of formsCount
+rule-opened sheet index run run′ run″ m r q cell opening ready opened beyond plants =
+    let k = 4 * m .forms in
+    let pair = q .node * 32 + q .attribute in
+    let forms-are : formsIn run″ ≡ setFour (formsIn run) k pair (q .word) (m .at) (m .end) = plants .forms ∙ ap (formsIn-of []) (opened []) in
+    let count-is : r .forms ≡ m .forms + 1 = ap (formsCount 0) (opened []) in
+    let fits : k + 4 ≤ length (formsIn run) = omega (arith, forms-length run (ready .step .frame .size), ready .few) in
+    let small : q .attribute < 32 = omega (arith, ready .rule .pair .known .described .attributes-bound, ready .rule .pair .attribute) in
+    let of-node : pair / 32 ≡ q .node = omega arith in
+    let of-attribute : pair % 32 ≡ q .attribute = omega arith in
+    rw count-is
+    (opened-more (formsIn run) (formsIn run″) (opensIn run) (opensIn run″) (m .forms) (opening .opened) (ready .few) q cell (opening .free) (opening .closed)
+    (opening .keyed)
+    (rw (
+      forms-are,
+      four-first (formsIn run) k pair (q .word) (m .at) (m .end) fits,
+      four-second (formsIn run) k pair (q .word) (m .at) (m .end) fits,
+      of-node,
+      of-attribute,
+    ))
+    (rw forms-are
+    (take-set-le k _ (k + 3) (m .end) (omega arith)
+    ∙ take-set-le k _ (k + 2) (m .at) (omega arith)
+    ∙ take-set-le k _ (k + 1) (q .word) (omega arith)
+    ∙ take-set-le k (formsIn run) k pair (omega arith)))
+    (plants .opens ∙ ap (λ l. planted l (m .forms) cell) beyond))
 
 -- ---- A kept value, or the definition
 
--- What the code found of the occurrence in the store, and where it leaves the memory.
-module _ (sheet index store run : List ℕ) (limit : ℕ) (m : Registers) (q : Key) (found : Found) (is : foundOf found ≡ findKey store (m .kept) q) where
-  abbrev takenNow : Stepped
-  takenNow = takeKept sheet index limit (memoryOf store run) m (q .node) (q .attribute) (findKey store (m .kept) q)
+-- a step that the budget has can be counted
+pub step-counts : {steps budget : ℕ} → steps < budget → budget < 18446744073709551616 → steps + 1 < 18446744073709551616
+step-counts left fits = omega arith
 
-  module _ (cell : ℕ) (nothing : found ≡ Nothing cell) where
-    pub takes-deep : 64 ≤ m .forms → stops 16 ≡ takenNow
-    unfolding takeKept
-    takes-deep deep = rw (nothing-found _ _ is refl nothing, le-leb 64 (m .forms) deep)
+-- What the code found of an occurrence among the open forms.
+module _ (run : List ℕ) (m : Registers) (q : Key) (opening : Opening) (is : isOpenIn opening ≡ keyOpen (formsIn run) (m .forms) q) where
+  pub open-key : opening ≡ Open → keyOpen (formsIn run) (m .forms) q ≡ true
+  unfolding isOpenIn
+  open-key among = sym is ∙ ap isOpenIn among
+
+  module _ (cell : ℕ) (closed : opening ≡ Closed cell) where
+    pub closed-key : keyOpen (formsIn run) (m .forms) q ≡ false
+    unfolding isOpenIn
+    closed-key = sym is ∙ ap isOpenIn closed
+
+    pub closed-free : ClosedAt (opensIn run) (m .forms) q opening → FreeFor (opensIn run) (m .forms) q cell
+    closed-free free = rw closed at free
+
+-- the limits of AttrApp of what is not kept
+module _ (budget limit : ℕ) (m : Registers) (next : Stepped) where
+  pub limited-spent : budget ≤ m .steps → stops 15 ≡ limited budget limit m next
+  limited-spent used = rw (le-leb budget (m .steps) used)
+
+  module _ (left : m .steps < budget) where
+    pub limited-deep : 64 ≤ m .forms → stops 16 ≡ limited budget limit m next
+    limited-deep deep = rw (lt-leb budget (m .steps) left, le-leb 64 (m .forms) deep)
 
     module _ (few : m .forms < 64) where
-      pub missing-waits : limit ≤ m .steps → waits ≡ takenNow
-      unfolding takeKept
-      missing-waits reached = rw (nothing-found _ _ is refl nothing, lt-leb 64 (m .forms) few, le-leb limit (m .steps) reached)
+      pub limited-waits : limit ≤ m .steps → waits ≡ limited budget limit m next
+      limited-waits reached = rw (lt-leb budget (m .steps) left, lt-leb 64 (m .forms) few, le-leb limit (m .steps) reached)
 
-  module _ (j : ℕ) (at-j : found ≡ At j) where
-    pub kept-waits : limit ≤ m .steps → waits ≡ takenNow
-    unfolding takeKept
-    kept-waits reached = rw (found-at _ _ is refl _ at-j, le-leb limit (m .steps) reached)
+      pub limited-goes : m .steps < limit → next ≡ limited budget limit m next
+      limited-goes before = rw (lt-leb budget (m .steps) left, lt-leb 64 (m .forms) few, lt-leb limit (m .steps) before)
 
-    pub takes-kept : m .steps < limit → (r : Registers) (v : Value) (w code : ℕ) → w ≡ valueWord store j → code ≡ resultAt sheet (q .attribute)
-        → v ≡ ofWord (baseOf code) w → r ≡ answered m (m .kept) v → goes r (memoryOf store run) ≡ takenNow
-    unfolding takeKept
-    takes-kept before r v w code word typed value by =
-        rw (by, found-at _ _ is refl _ at-j, lt-leb limit (m .steps) before, value, typed, word)
+-- An occurrence that has a rule: a circle, or the limits.
+module _ (sheet index store run : List ℕ) (budget limit : ℕ) (m : Registers) (q : Key) where
+  abbrev ruleNow : Stepped
+  ruleNow = ruleDue sheet index budget limit (memoryOf store run) m (q .node) (q .attribute) (q .word)
 
--- The occurrence is not kept, and neither depth nor the limit is against its definition.
-pub record Missing (store : List ℕ) (limit : ℕ) (m : Registers) (q : Key) : Type 0 where
-  pub none-kept : findKey store (m .kept) q ≡ none
-  pub few : m .forms < 64
-  pub before : m .steps < limit
-  pub word : q .word ≡ toWord (m .value)
+  pub rule-circle : keyOpen (formsIn run) (m .forms) q ≡ true → stops 20 ≡ ruleNow
+  rule-circle among = rw among
 
-pub takes-definition : (sheet index store run : List ℕ) (limit : ℕ) (m : Registers) (q : Key) → Missing store limit m q → (run′ store′ : List ℕ) (r : Registers)
-    → goes r (memoryOf store′ run′)
-    ≡ openFigure sheet index (memoryOf store run) m (q .node) (q .attribute) (q .word)
-    (indexed (getD index (figurePlace (q .node) (q .attribute)) 0) (figureAt sheet (q .attribute)))
-    → goes r (memoryOf store′ run′) ≡ takeKept sheet index limit (memoryOf store run) m (q .node) (q .attribute) (findKey store (m .kept) q)
-unfolding takeKept
-takes-definition sheet index store run limit m q missing run′ store′ r opened =
-    rw (missing .none-kept, lt-leb 64 (m .forms) (missing .few), lt-leb limit (m .steps) (missing .before)) (rw (missing .word) at opened)
+  module _ (closed : keyOpen (formsIn run) (m .forms) q ≡ false) where
+    abbrev opensNow : Stepped
+    opensNow = openRule sheet index (memoryOf store run) m (q .node) (q .attribute) (q .word)
+
+    rule-limited : limited budget limit m opensNow ≡ ruleNow
+    rule-limited = rw closed
+
+    pub rule-spent : budget ≤ m .steps → stops 15 ≡ ruleNow
+    rule-spent used = limited-spent budget limit m opensNow used ∙ rule-limited
+
+    module _ (left : m .steps < budget) where
+      pub rule-deep : 64 ≤ m .forms → stops 16 ≡ ruleNow
+      rule-deep deep = limited-deep budget limit m opensNow left deep ∙ rule-limited
+
+      module _ (few : m .forms < 64) where
+        pub rule-waits : limit ≤ m .steps → waits ≡ ruleNow
+        rule-waits reached = limited-waits budget limit m opensNow left few reached ∙ rule-limited
+
+        -- Its form is put into the index of the open forms, where nothing of the machine stands.
+        pub rule-goes : m .steps < limit → (run′ run″ : List ℕ) (r : Registers) (cell : ℕ) → Plants run′ run″ (m .forms) cell
+            → goes r (memoryOf store run′) ≡ opensNow → goes r (memoryOf store run″) ≡ ruleNow
+        rule-goes before run′ run″ r cell plants opened =
+            (λ i. goes r (record { store = store; words = plants .words i; forms = plants .forms i }))
+            ∙ opened
+            ∙ limited-goes budget limit m opensNow left few before
+            ∙ rule-limited
+
+pub rule-keeps : (sheet index run run′ : List ℕ) (m r : Registers) (n a word : ℕ)
+    → ((s : List ℕ) → goes r (memoryOf s run′) ≡ openRule sheet index (memoryOf s run) m n a word) → r .kept ≡ m .kept
+unfolding openRule
+rule-keeps sheet index run run′ m r n a word opened = ap (keptIn 0) (opened [])
+
+-- An occurrence that is not kept, by its figure or its rule.
+module _ (sheet index store links run : List ℕ) (budget limit : ℕ) (m : Registers) (q : Key)
+    (ready : AttributeReady sheet index store links run m (q .node) (q .attribute)) (word : q .word ≡ toWord (m .value)) (found : FoundFigure)
+    (is : figureOf found ≡ indexed (getD index (figurePlace (q .node) (q .attribute)) 0) (figureAt sheet (q .attribute))) where
+  abbrev missingNow : Stepped
+  missingNow = takeKept sheet index budget limit (memoryOf store run) m (q .node) (q .attribute) none
+
+  pub missing-rule : found ≡ NoFigure → (stepped : Stepped)
+      → stepped ≡ ruleDue sheet index budget limit (memoryOf store run) m (q .node) (q .attribute) (q .word) → stepped ≡ missingNow
+  unfolding takeKept openFigure
+  missing-rule none-found stepped due = rw (← word, sym is ∙ ap figureOf none-found) due
+
+  pub missing-figure : (v : Value) → found ≡ Of v → (stepped : Stepped)
+      → stepped ≡ limited budget limit m (keepsFigure (memoryOf store run) m (q .node) (q .attribute) (q .word) v) → stepped ≡ missingNow
+  unfolding takeKept openFigure
+  missing-figure v of stepped due =
+      let (at, is-figure) = some-figure sheet index (q .node) (q .attribute) found is v of in
+      rw (ready .figure-closed at is-figure, ← word, sym is ∙ ap figureOf of) due
+
+-- What the code found of the occurrence in the store.
+module _ (sheet index store run : List ℕ) (budget limit : ℕ) (m : Registers) (q : Key) (found : Found) (is : foundOf found ≡ findKey store (m .kept) q) where
+  abbrev takenNow : Stepped
+  takenNow = takeKept sheet index budget limit (memoryOf store run) m (q .node) (q .attribute) (findKey store (m .kept) q)
+
+  pub takes-missing : (cell : ℕ) → found ≡ Nothing cell → (stepped : Stepped)
+      → stepped ≡ takeKept sheet index budget limit (memoryOf store run) m (q .node) (q .attribute) none → stepped ≡ takenNow
+  takes-missing cell nothing stepped taken = rw (nothing-found _ _ is refl nothing) taken
+
+  pub takes-found : (j : ℕ) → found ≡ At j → (r : Step)
+      → ((mem : Memory) → steppedOf r mem
+      ≡ within budget limit m (goes (answered m (m .kept) (ofWord (baseOf (resultAt sheet (q .attribute))) (valueWord store j))) mem))
+      → steppedOf r (memoryOf store run) ≡ takenNow
+  unfolding takeKept
+  takes-found j at-j r taken = rw (found-at _ _ is refl _ at-j) (taken (memoryOf store run))
+
+-- Neither the store nor the open forms change where the value is kept.
+module _ (budget limit : ℕ) (m : Registers) (v : Value) (r : Step)
+    (taken : (mem : Memory) → steppedOf r mem ≡ within budget limit m (goes (answered m (m .kept) v) mem)) where
+  abbrev Stays : Stepped → Type 0
+  Stays (goes m′ mem′) = (m′ .kept ≡ m .kept) × (m′ .forms ≡ m .forms)
+  Stays waits = Unit {0}
+  Stays finishes = Unit {0}
+  Stays (stops number) = Unit {0}
+
+  mem : Memory
+  mem = record { store = []; words = []; forms = [] }
+
+  stays : Stays (steppedOf r mem)
+  stays = rw (taken mem) (within-holds Stays limit m _ budget (λ _. tt) (λ _ _. tt) (λ _ _. (refl, refl)))
+
+  pub found-kept : keptAfter r m ≡ m .kept
+  unfolding keptAfter steppedOf
+  found-kept = go r (stays)
+    where
+      go : (r : Step) → Stays (steppedOf r mem) → keptAfter r m ≡ m .kept
+      go (Goes after) h = h .0
+      go Waits h = refl
+      go Finishes h = refl
+      go (Stops number) h = refl
+
+  pub found-forms : formsAfter r m ≡ m .forms
+  unfolding formsAfter steppedOf
+  found-forms = go r (stays)
+    where
+      go : (r : Step) → Stays (steppedOf r mem) → formsAfter r m ≡ m .forms
+      go (Goes after) h = h .1
+      go Waits h = refl
+      go Finishes h = refl
+      go (Stops number) h = refl
+
+  pub found-linked : (store links : List ℕ) → Linked store (m .kept) links → Linked store (keptAfter r m) links
+  found-linked store links linked = rw found-kept linked
+
+  pub found-opened : (forms opens : List ℕ) → Opened forms opens (m .forms) → Opened forms opens (formsAfter r m)
+  found-opened forms opens opened = rw found-forms opened
+
+-- the same, where the numbers are told
+pub kept-linked : (r : Step) (m : Registers) (store links : List ℕ) → keptAfter r m ≡ m .kept → Linked store (m .kept) links → Linked store (keptAfter r m) links
+kept-linked r m store links same linked = rw same linked
+
+pub forms-opened : (r : Step) (m : Registers) (forms opens : List ℕ) → formsAfter r m ≡ m .forms → Opened forms opens (m .forms) → Opened forms opens (formsAfter r m)
+forms-opened r m forms opens same opened = rw same opened
+
+pub found-still : (r : Step) (mem : Memory) → Still r mem mem
+found-still (Goes after) mem = tt
+found-still Waits mem = refl
+found-still Finishes mem = refl
+found-still (Stops number) mem = refl
 
 -- A kept value is read within the store, and is one of its type.
-module _ (store : List ℕ) (m : Registers) (q : Key) (found : Found) (is : foundOf found ≡ findKey store (m .kept) q) (j : ℕ) (at-j : found ≡ At j) where
-  pub kept-within : (links : List ℕ) → WriteReady store links (m .kept) → 12 * j + 12 ≤ length store
-  kept-within links writes = let (below, same) = found-below _ _ _ _ (found-at _ _ is refl _ at-j) in omega (arith, below, writes .linked .stands)
+pub found-ready : (sheet index store links run : List ℕ) (m : Registers) (q : Key) → AttributeReady sheet index store links run m (q .node) (q .attribute)
+    → q .word ≡ toWord (m .value) → (found : Found) → foundOf found ≡ findKey store (m .kept) q → (j : ℕ) → found ≡ At j
+    → FoundReady sheet store m (q .attribute) j
+found-ready sheet index store links run m q ready word found is j at-j =
+    let (below, same) = found-below _ _ _ _ (found-at _ _ is refl _ at-j) in
+    let due : q ≡ record { node = q .node; attribute = q .attribute; word = toWord (m .value) } =
+    λ i. record { node = q .node; attribute = q .attribute; word = word i } in
+    record {
+      framed = ready .frame .framed;
+      declared = omega (arith, ready .pair .known .described .room, ready .pair .attribute);
+      stands = omega (arith, below, ready .writes .linked .stands);
+      word = ready .kept-word _ (rw due at (found-at _ _ is refl _ at-j));
+    }
 
-  pub kept-is-word : (sheet index links run : List ℕ) (w code : ℕ) → AttributeReady sheet index store links run m (q .node) (q .attribute)
-      → q .word ≡ toWord (m .value) → w ≡ valueWord store j → code ≡ resultAt sheet (q .attribute) → isWord 1024 (baseOf code) w ≡ true
-  kept-is-word sheet index links run w code ready word is-word typed =
-      let due : q ≡ record { node = q .node; attribute = q .attribute; word = toWord (m .value) } =
-      λ i. record { node = q .node; attribute = q .attribute; word = word i } in
-      rw (typed, is-word) (ready .kept-word _ (rw due at (found-at _ _ is refl _ at-j)))
+module _ (sheet store : List ℕ) (m : Registers) (a j : ℕ) (ready : FoundReady sheet store m a j) where
+  pub found-word : (w code : ℕ) → w ≡ valueWord store j → code ≡ resultAt sheet a → isWord 1024 (baseOf code) w ≡ true
+  found-word w code is-word typed = rw (typed, is-word) (ready .word)
+
+  pub found-goes : (budget limit : ℕ) (mem : Memory) → m .steps < budget → m .steps < limit → (r : Registers) (v : Value) (w code : ℕ) → w ≡ valueWord store j
+      → code ≡ resultAt sheet a → v ≡ ofWord (baseOf code) w → r ≡ answered m (m .kept) v
+      → goes r mem ≡ within budget limit m (goes (answered m (m .kept) (ofWord (baseOf (resultAt sheet a)) (valueWord store j))) mem)
+  found-goes budget limit mem left before r v w code is-word typed value by =
+      rw (by, value, typed, is-word) (within-goes budget limit m _ left before)
 
 -- what is answered keeps the number that it is given
 pub answer-keeps : (store links : List ℕ) (m r : Registers) (v : Value) (kept : ℕ) → r ≡ answered m kept v → Linked store kept links → Linked store (r .kept) links
 answer-keeps store links m r v kept by linked = rw by linked
 
-pub kept-answer-keeps : (sheet index store links run : List ℕ) (m r : Registers) (v : Value) (n a : ℕ) → AttributeReady sheet index store links run m n a
-    → r ≡ answered m (m .kept) v → Linked store (r .kept) links
-kept-answer-keeps sheet index store links run m r v n a ready by = rw by (ready .writes .linked)
+-- the open forms are those that were open
+pub answer-opens : (run : List ℕ) (m r : Registers) (v : Value) (kept : ℕ) → r ≡ answered m kept v → Opened (formsIn run) (opensIn run) (m .forms)
+    → Opened (formsIn run) (opensIn run) (r .forms)
+answer-opens run m r v kept by opened = rw by opened
 
--- ---- Null and the budget, in the order of their numbers
+-- ---- Null
 
 -- The node that the word `w` holds, which the code reads in three calls.
 pub node-held : (w held node : ℕ) (v : Value) → node ≡ nodeOf v → v ≡ valueIn held → held ≡ heldNode w → node ≡ nodeOf (valueIn (heldNode w))
@@ -203,29 +399,22 @@ module _ (w held node : ℕ) (v : Value) (holds : held ≡ heldNode w) (unpacked
     unfolding attributeDue
     due-null null = rw (sym node-is, null)
 
-    module _ (no-null : node ≡ 65535 → ⊥) where
-      pub due-spent : budget ≤ m .steps → stops 15 ≡ dueNow
-      unfolding attributeDue
-      due-spent used = rw (sym node-is, ne-eqb node 65535 no-null, le-leb budget (m .steps) used)
-
--- Neither null nor the budget stops AttrApp, with the node and the attribute that the code read from the word `w`.
-pub record DueStep (sheet index store links run : List ℕ) (budget : ℕ) (m : Registers) (w node a : ℕ) : Type 0 where
+-- AttrApp is not on null, with the node and the attribute that the code read from the word `w`.
+pub record DueStep (sheet index store links run : List ℕ) (m : Registers) (w node a : ℕ) : Type 0 where
   pub node-is : node ≡ nodeOf (valueIn (heldNode w))
   pub attribute-is : a ≡ heldAttribute w
   pub no-null : node ≡ 65535 → ⊥
-  pub left : m .steps < budget
-  pub ready : (nodeOf (valueIn (heldNode w)) ≡ 65535 → ⊥) → m .steps < budget
+  pub ready : (nodeOf (valueIn (heldNode w)) ≡ 65535 → ⊥)
       → AttributeReady sheet index store links run m (nodeOf (valueIn (heldNode w))) (heldAttribute w)
 
-module _ (sheet index store links run : List ℕ) (budget : ℕ) (m : Registers) (w node a : ℕ)
-    (due : DueStep sheet index store links run budget m w node a) where
+module _ (sheet index store links run : List ℕ) (m : Registers) (w node a : ℕ) (due : DueStep sheet index store links run m w node a) where
   pub due-ready : AttributeReady sheet index store links run m node a
-  due-ready = rw (due .node-is, due .attribute-is) (due .ready (λ e. due .no-null (due .node-is ∙ e)) (due .left))
+  due-ready = rw (due .node-is, due .attribute-is) (due .ready (λ e. due .no-null (due .node-is ∙ e)))
 
-  pub due-taken : (limit word : ℕ) (stepped : Stepped) → word ≡ toWord (m .value)
+  pub due-taken : (budget limit word : ℕ) (stepped : Stepped) → word ≡ toWord (m .value)
       → stepped
-      ≡ takeKept sheet index limit (memoryOf store run) m node a (findKey store (m .kept) record { node = node; attribute = a; word = word })
+      ≡ takeKept sheet index budget limit (memoryOf store run) m node a (findKey store (m .kept) record { node = node; attribute = a; word = word })
       → stepped ≡ attributeDue sheet index budget limit (memoryOf store run) m (nodeOf (valueIn (heldNode w))) (heldAttribute w)
   unfolding attributeDue
-  due-taken limit word stepped is-word taken =
-      rw (← (due .node-is), ne-eqb node 65535 (due .no-null), lt-leb budget (m .steps) (due .left)) (rw (due .attribute-is, is-word) at taken)
+  due-taken budget limit word stepped is-word taken =
+      rw (← (due .node-is), ne-eqb node 65535 (due .no-null)) (rw (due .attribute-is, is-word) at taken)

@@ -12,10 +12,11 @@ use Rattle.saiga.specs.Ask.{lent, asking, endedAnswer, runQuestion, traceQuesti
 use Rattle.saiga.proofs.Calls.{Passed, passed, ask-runs}
 use Rattle.stores.specs.Keys.{Linked}
 use Rattle.engine.specs.declared.Registers.{Registers}
-use Rattle.engine.specs.Decode.{wordsIn, formsIn}
+use Rattle.engine.specs.Decode.{wordsIn, formsIn, opensIn}
 use Rattle.engine.specs.Ready.{memoryOf}
 use Rattle.engine.specs.Loop.{Invariant, started, Final}
-use Rattle.engine.proofs.RunMemory.{words-length, forms-length}
+use Rattle.engine.proofs.RunMemory.{words-length, forms-length, opens-length}
+use Rattle.opens.proofs.Opened.{opened-none}
 use Rattle.engine.proofs.Tracking.{tracks-start}
 use Rattle.engine.proofs.Loop.{question-short, invariant-start, final-outcome}
 use Rattle.engine.specs.Tallied.{RowsWithin, Tallied}
@@ -65,6 +66,7 @@ module _ {sheet index notes question store links memory : List ℕ} {kept budget
           tracks = tracks-start sheet index notes (memoryOf store memory) first (ap (λ m. m .forms) is) (a .noted .rules) (a .noted .size);
           permitted = found .permitted;
           linked = rw is (a .linked);
+          opened = rw is (opened-none (formsIn memory) (opensIn memory) (opens-length memory (a .memory-length)));
           short = question-short (a .call .sheet) question (a .call .question) (found .question-is);
         }
 

@@ -83,7 +83,7 @@ indexes-after before linked =
       indexed = before .indexed;
       notes-length = before .notes-length;
       noted = before .noted;
-      links-length = linked .size;
+      links-length = linked .trie .size;
       linked = λ s e entries f. linked;
     }
 

@@ -1,29 +1,29 @@
 -- AttrApp and CacheWrite on registers and memory are moves of the machine.
 use mathlib.Core.Bool.{Bool, true, false, false≢true}
 use mathlib.Core.Bool as Bool
-use mathlib.Core.Option.{Option, none, some}
-use mathlib.Core.List.{List, [], _∷_}
+use mathlib.Core.Option.{Option, none, some, Option·none-ne-some}
+use mathlib.Core.List.{List, _∷_}
 use mathlib.Core.Logic.{_⊎_, inl, inr}
 use mathlib.Core.Path.{_≡_, refl, sym, _∙_, ap}
 use Prim.Native.Nat.{ℕ, zero, suc, _+_, _*_, _-_, _/_, _%_, _≤_, _<_}
 use native.Mathlib.Nat.{eq-or-lt-of-le}
 use native.Mathlib.Omega.{arith}
 use native.Mathlib.Numerals.{add-one}
-use lib.Dec.{leb, eqb}
+use lib.Dec.{eqb}
 use lib.ListN.{length, take, drop, getD, set, length-set}
 use lib.Seq.{getD-set-same, getD-set-other}
-use borrow.Author.Tests.{leb-true, leb-false, lt-ltb, le-ltb, eq-eqb, ne-eqb}
-use Rattle.saiga.specs.Values.{boolT, nodeT, Ty, base, _⇒_, null, nodeOf, baseOf, ofBytes, ofWord, toWord}
+use borrow.Author.Tests.{lt-ltb, le-ltb, eq-eqb, ne-eqb}
+use Rattle.saiga.specs.Values.{nodeT, base, null, nodeOf, baseOf, ofBytes, ofWord, toWord}
 use Rattle.saiga.specs.declared.Value.{Value}
-use Rattle.saiga.specs.Types.{Attribute, attributeAt}
+use Rattle.saiga.specs.Types.{attributeAt}
 use Rattle.saiga.specs.Sheet.{Sheet, nodeCount, attributeCount, Definition, figure, piece-of, ruled, figured, definition, isDefined, accepted}
-use Rattle.saiga.specs.Terms.{Occurrence, val, cond, app, attr, form}
+use Rattle.saiga.specs.Terms.{Occurrence, val, cond, attr, form}
 use Rattle.saiga.specs.Plain.{on-null}
-use Rattle.saiga.specs.Caching.{Entry, Running, kept, write, AttrApp, as-plain, spent, depth, tooDeep}
-use Rattle.saiga.proofs.Depth.{not-deep-kept, not-deep-few, deep-missing}
+use Rattle.saiga.specs.Caching.{Entry, kept, write, AttrApp, as-plain, circle, spent, depth, isOpen, circular, tooDeep}
+use Rattle.saiga.proofs.Depth.{not-circular-kept, not-circular-closed, circular-open, not-deep-kept, not-deep-few, deep-missing}
 use Rattle.saiga.specs.Store.{checkStore}
 use Rattle.saiga.specs.Ask.{reasonNumber}
-use Rattle.saiga.specs.Sound.{IsA, ValueIn, OccurrenceIn, RunningIn, val∈, cond∈, app∈, attr∈, form∈}
+use Rattle.saiga.specs.Sound.{IsA, OccurrenceIn, RunningIn}
 use Rattle.saiga.proofs.FourBytes.{word-in}
 use Rattle.saiga.proofs.Accepted.{pair-defined}
 use Rattle.saiga.proofs.Preservation.{declared, either}
@@ -33,66 +33,23 @@ use Rattle.values.proofs.Declared.{attributeIn}
 use Rattle.stores.specs.Keys.{findKey, fieldsFor}
 use Rattle.engine.specs.RunningPiece.{pieceIn, restOf}
 use Rattle.values.specs.Packed.{valueIn}
-use Rattle.engine.specs.Machine.{Frame, on-if, on-left, on-skip, on-right, on-node, on-parameter, on-form, returning, Machine, openForms, plug, termOf, stateOf, moves, takes, counted, defined, applied, give, moveOf, move}
+use Rattle.engine.specs.Machine.{Frame, on-parameter, on-form, returning, Machine, openForms, plug, termOf, stateOf, moves, takes, counted, defined, applied, give, moveOf, move}
 use Rattle.engine.specs.Machine as Machine
 use Rattle.engine.specs.FrameWords.{kindOf, ifKind, leftKind, skipKind, rightKind, nodeKind, parameterKind, formKind, heldAttribute, heldNode}
 use Rattle.engine.specs.Decode.{sheetOf, entriesOf, plainFrame, formOccurrence, formRest, framesIn, modeOf, machineOf, Placed}
-use Rattle.engine.specs.Steps.{Memory, Stepped, goes, answered, cacheWrite, closeForm, untilLimit, openRule, openFigure, takeKept, attributeDue}
+use Rattle.engine.specs.Steps.{Memory, Stepped, goes, answered, cacheWrite, closeForm, openRule, openFigure, takeKept, attributeDue}
+use Rattle.engine.specs.OpenKeys.{formKey, keyOpen}
 use Rattle.engine.specs.declared.Registers.{Registers}
 use Rattle.engine.proofs.Bounds.{represents-sized, frames-fit}
 use Rattle.engine.specs.Machine.{Next, by-move, by-step}
 use Rattle.engine.specs.Represents.{machineIn, Represents, Matches}
 use Rattle.engine.proofs.Decoding.{frames-count}
 use Rattle.engine.proofs.StoreWritten.{keyOf, ByKey, Written, cache-write}
-use Rattle.engine.proofs.Limited.{until-holds}
-
--- ---- Types
-
-module _ {nodes : ℕ} {sig : List Attribute} where
-  -- what a rule of the types says of the parts
-  val-in : {v : Value} {T : Ty} → RunningIn nodes sig (val v) T → ValueIn nodes T v
-  val-in (val∈ h) = h
-
-  cond-in : {c t e : Running} {T : Ty} → RunningIn nodes sig (cond c t e) T → (U : Ty) × RunningIn nodes sig c U
-  cond-in (cond∈ c t e) = (base boolT, c)
-
-  app-in : {f x : Running} {T : Ty} → RunningIn nodes sig (app f x) T → ((U : Ty) × RunningIn nodes sig f U) × ((U : Ty) × RunningIn nodes sig x U)
-  app-in (app∈ {B = B} {T = T} f x) = ((B ⇒ T, f), (base B, x))
-
-  attr-in : {n x : Running} {a : ℕ} {T : Ty} → RunningIn nodes sig (attr n a x) T
-      → (a < length sig) × RunningIn nodes sig n (base nodeT) × RunningIn nodes sig x (base (attributeAt sig a .parameter-type))
-  attr-in (attr∈ a n x) = (a, n, x)
-
-  pub form-in : {o : Occurrence} {e : Running} {T : Ty} → RunningIn nodes sig (form o e) T
-      → OccurrenceIn nodes sig o × RunningIn nodes sig e (base (attributeAt sig (o .attribute) .result))
-  form-in (form∈ o e) = (o .0, rw (o .1) at e)
-
-  -- A part of what is of a type is of a type.
-  pub plug-in : (s : Sheet) (fs : List Frame) (t : Running) (l : List ℕ) {T : Ty} → RunningIn nodes sig (plug s fs t l) T → (U : Ty) × RunningIn nodes sig t U
-  unfolding plug
-  plug-in s [] t l {T} h = (T, h)
-  plug-in s (on-if ∷ fs) t l h = cond-in (plug-in s fs _ _ h .1)
-  plug-in s (on-left ∷ fs) t l h = app-in (plug-in s fs _ _ h .1) .0
-  plug-in s (on-skip ∷ fs) t l h = plug-in s fs t _ h
-  plug-in s (on-right v ∷ fs) t l h = app-in (plug-in s fs _ _ h .1) .1
-  plug-in s (on-node a ∷ fs) t l h = (_, attr-in (plug-in s fs _ _ h .1) .1)
-  plug-in s (on-parameter v a ∷ fs) t l h = (_, attr-in (plug-in s fs _ _ h .1) .2)
-  plug-in s (on-form o outer ∷ fs) t l h = (_, form-in (plug-in s fs _ _ h .1) .1)
+use Rattle.engine.proofs.Apart.{figure-closed}
+use Rattle.engine.proofs.Limited.{within-holds, missing-holds}
+use Rattle.engine.proofs.OpenForms.{val-in, attr-in, form-in, plug-in, plain-open, forms-in, open-by-key}
 
 -- ---- Frames and forms
-
--- every frame but a form's leaves the open forms as they are
-plain-open : (w : ℕ) (fs : List Frame) → openForms (plainFrame w ∷ fs) ≡ openForms fs
-unfolding plainFrame openForms
-plain-open w fs =
-    either P (eqb (kindOf w) ifKind) (λ _. refl)
-    (λ _. either P (eqb (kindOf w) leftKind) (λ _. refl)
-    (λ _. either P (eqb (kindOf w) skipKind) (λ _. refl)
-    (λ _. either P (eqb (kindOf w) rightKind) (λ _. refl)
-    (λ _. either P (eqb (kindOf w) nodeKind) (λ _. refl) (λ _. refl)))))
-  where
-    P : Frame → Type 0
-    P f = openForms (f ∷ fs) ≡ openForms fs
 
 -- what is read of a form
 module _ (sheet question forms forms′ : List ℕ) (k : ℕ) (same : (i : ℕ) → i < 4 * k + 4 → getD forms′ i 0 ≡ getD forms i 0) where
@@ -150,12 +107,12 @@ module _ (forms : List ℕ) (f a b c d : ℕ) (fits : f + 4 ≤ length forms) wh
       rw (getD-set-other _ (f + 3) i d 0 (omega arith), getD-set-other _ (f + 2) i c 0 (omega arith), getD-set-other _ (f + 1) i b 0 (omega arith))
       (getD-set-other forms f i a 0 (omega arith))
 
-  four-first : getD four f 0 ≡ a
+  pub four-first : getD four f 0 ≡ a
   four-first =
       rw (getD-set-other _ (f + 3) f d 0 (omega arith), getD-set-other _ (f + 2) f c 0 (omega arith), getD-set-other _ (f + 1) f b 0 (omega arith))
       (getD-set-same forms f a 0 (omega arith))
 
-  four-second : getD four (f + 1) 0 ≡ b
+  pub four-second : getD four (f + 1) 0 ≡ b
   four-second =
       rw (getD-set-other _ (f + 3) (f + 1) d 0 (omega arith), getD-set-other _ (f + 2) (f + 1) c 0 (omega arith))
       (getD-set-same (set forms f a) (f + 1) b 0 (simp length-set (omega arith)))
@@ -294,6 +251,19 @@ module _ {sheet index question : List ℕ} {mem : Memory} {m : Registers} (r : R
           word = r .holds .placed k (omega (arith, form-counted)) .word i;
         }
 
+    -- The occurrence of a form that closes is not kept: the open forms are apart.
+    pub form-not-kept : findKey (mem .store) (m .kept) (formKey (mem .forms) k) ≡ none
+    unfolding openForms machineOf formKey
+    form-not-kept =
+        let absent : kept entries o ≡ none = rw (entries-are, form-frames) at (r .apart) .0 in
+        go (findKey (mem .store) (m .kept) (keyOf o)) refl absent
+      where
+        go : (f : Option ℕ) → findKey (mem .store) (m .kept) (keyOf o) ≡ f → kept entries o ≡ none → findKey (mem .store) (m .kept) (formKey (mem .forms) k) ≡ none
+        go none e absent = rw form-key at e
+        go (some j) e absent =
+            let found = by-key _ _ _ (r .holds .stored) .found o j (form-typed .0) e in
+            absurd (Option·none-ne-some _ (sym absent ∙ found))
+
     -- with what CacheWrite leaves
     closes : (capacity budget limit : ℕ) → length (mem .store) / 12 ≡ capacity → (w : List ℕ × ℕ)
         → Written s (mem .store) (write (length (mem .store) / 12) entries record { occurrence = o; value = m .value }) w
@@ -385,6 +355,21 @@ module _ {sheet index question : List ℕ} {mem : Memory} {m : Registers} (r : R
       figure-in at e =
           rw attribute-is (word-in _ _ _ (r .index-of .described .figure-fits (nodeOf held) a at (due-in .node-declared) (due-in .attribute-declared) e .1))
 
+      -- whether a form of the occurrence is open
+      open-test : isOpen (openForms under) due ≡ keyOpen (mem .forms) (m .forms) (keyOf due)
+      unfolding machineOf plug
+      open-test =
+          open-by-key due due-in sheet (mem .forms) question (mem .words) (m .frames - 1) (m .forms) under-counted
+          (forms-in s under (attr (val held) a (val (m .value))) (M .rest) (value-typed (on-parameter held a ∷ under) parameter-frames))
+          (λ j h. r .holds .placed j h .word)
+
+      -- a figure's form is not
+      pub figure-not-open : (at : ℕ) → getD index (figurePlace (nodeOf held) a) 0 ≡ suc at → keyOpen (mem .forms) (m .forms) (keyOf due) ≡ false
+      unfolding indexed figured machineOf openForms
+      figure-not-open at e =
+          let apart = rw parameter-frames at (r .apart) in
+          sym (open-test) ∙ figure-closed s (M .entries) (openForms under) due (figureAt sheet a at) (definition-at ∙ rw e) apart
+
     module _ (capacity budget limit : ℕ) (room : length (mem .store) / 12 ≡ capacity) where
       abbrev P : Stepped → Type 0
       P = Matches sheet question capacity budget limit m M
@@ -393,19 +378,33 @@ module _ {sheet index question : List ℕ} {mem : Memory} {m : Registers} (r : R
       unfolding machineOf give
       at-frame = move-gives s capacity budget M (m .value) _ mode-is parameter-frames
 
-      module _ (no-null : eqb (nodeOf held) null ≡ false) (left : m .steps < budget) where
+      -- what stops AttrApp that is not on null
+      module _ (no-null : eqb (nodeOf held) null ≡ false) where
+        in-circle : kept entries due ≡ none → keyOpen (mem .forms) (m .forms) (keyOf due) ≡ true → P (Stepped.stops 20)
+        unfolding machineOf Machine.attributeDue reasonNumber
+        in-circle absent among =
+            let around = circular-open entries (openForms under) due absent (open-test no-null ∙ among) in
+            (circle, at-frame ∙ rw (no-null, ap (λ es. circular es (openForms under) due) entries-are ∙ around), refl)
+
+        no-budget : circular entries (openForms under) due ≡ false → budget ≤ m .steps → P (Stepped.stops 15)
+        unfolding machineOf Machine.attributeDue reasonNumber
+        no-budget no-circle used =
+            (spent, at-frame ∙ rw (no-null, ap (λ es. circular es (openForms under) due) entries-are ∙ no-circle, le-ltb (m .steps) budget used), refl)
+
+      module _ (no-null : eqb (nodeOf held) null ≡ false) (no-circle : circular entries (openForms under) due ≡ false) (left : m .steps < budget) where
         -- AttrApp with nothing against it
         module _ (shallow : tooDeep entries (openForms under) due ≡ false) where
           takes-it : move s capacity budget M ≡ takes (AttrApp a) (applied s capacity budget M due under (kept entries due))
           unfolding machineOf Machine.attributeDue
           takes-it =
               at-frame
-              ∙ rw (no-null, lt-ltb (m .steps) budget left, ap (λ es. tooDeep es (openForms under) due) entries-are ∙ shallow)
+              ∙ rw (
+                no-null,
+                ap (λ es. circular es (openForms under) due) entries-are ∙ no-circle,
+                lt-ltb (m .steps) budget left,
+                ap (λ es. tooDeep es (openForms under) due) entries-are ∙ shallow,
+              )
               (ap (takes (AttrApp a)) (ap (λ es. applied s capacity budget M due under (kept es due)) entries-are))
-
-          -- at the limit it waits
-          waits-or : (next : Stepped) → P next → P (untilLimit limit m next)
-          waits-or next h = until-holds P limit m next (λ reached. (AttrApp a, _, takes-it, reached, left)) (λ _. h)
 
           takes-next : {next : Machine} → applied s capacity budget M due under (kept entries due) ≡ next → Next s capacity budget M next
           takes-next e = by-step (AttrApp a) (takes-it ∙ ap (takes (AttrApp a)) e)
@@ -520,26 +519,41 @@ module _ {sheet index question : List ℕ} {mem : Memory} {m : Registers} (r : R
         too-deep absent many =
             let deep = deep-missing entries (openForms under) due absent (omega (arith, under-counted)) in (
               depth,
-              at-frame ∙ rw (no-null, lt-ltb (m .steps) budget left, ap (λ es. tooDeep es (openForms under) due) entries-are ∙ deep),
+              at-frame
+                  ∙ rw (
+                    no-null,
+                    ap (λ es. circular es (openForms under) due) entries-are ∙ no-circle,
+                    lt-ltb (m .steps) budget left,
+                    ap (λ es. tooDeep es (openForms under) due) entries-are ∙ deep,
+                  ),
               refl,
             )
 
-        takes-kept : (f : Option ℕ) → findKey (mem .store) (m .kept) (keyOf due) ≡ f → P (takeKept sheet index limit mem m (nodeOf held) a f)
-        unfolding takeKept applied
-        takes-kept none e =
-            let absent = by-key _ _ _ (r .holds .stored) .missing due (due-in no-null) e in
-            either P (leb 64 (m .forms)) (λ many. too-deep absent (leb-true 64 (m .forms) many))
-            (λ few. let few = leb-false 64 (m .forms) few in waits-or (shallow absent few) _ (figures absent few _ refl))
-        takes-kept (some j) e =
-            let found = rw attribute-is at (by-key _ _ _ (r .holds .stored) .found due j (due-in no-null) e) in
-            let shallow = not-deep-kept entries (openForms under) due found in
-            waits-or shallow _
-            (answers shallow _ entries (mem .store, m .kept) (record { passes = r .holds .stored; same-length = refl })
-            (ap (applied s capacity budget M due under) found ∙ same-machine refl refl refl entries-are refl))
+      takes-kept : eqb (nodeOf held) null ≡ false → (f : Option ℕ) → findKey (mem .store) (m .kept) (keyOf due) ≡ f
+          → P (takeKept sheet index budget limit mem m (nodeOf held) a f)
+      unfolding takeKept applied
+      takes-kept no-null none e =
+          let absent = by-key _ _ _ (r .holds .stored) .missing due (due-in no-null) e in
+          let no-circle : keyOpen (mem .forms) (m .forms) (keyOf due) ≡ false → circular entries (openForms under) due ≡ false =
+          λ closed. not-circular-closed entries (openForms under) due (open-test no-null ∙ closed) in
+          missing-holds P sheet index budget limit mem m (nodeOf held) a
+          (in-circle no-null absent)
+          (λ closed used. no-budget no-null (no-circle closed) used)
+          (λ closed left many. too-deep no-null (no-circle closed) left absent many)
+          (λ closed left few reached.
+          (AttrApp a, _, takes-it no-null (no-circle closed) left (shallow no-null (no-circle closed) left absent few), reached, left))
+          (λ closed left few before. figures no-null (no-circle closed) left absent few _ refl)
+      takes-kept no-null (some j) e =
+          let found = rw attribute-is at (by-key _ _ _ (r .holds .stored) .found due j (due-in no-null) e) in
+          let no-circle = not-circular-kept entries (openForms under) due found in
+          let shallow = not-deep-kept entries (openForms under) due found in
+          within-holds P limit m _ budget (no-budget no-null no-circle)
+          (λ left reached. (AttrApp a, _, takes-it no-null no-circle left shallow, reached, left))
+          (λ left before.
+          answers no-null no-circle left shallow _ entries (mem .store, m .kept) (record { passes = r .holds .stored; same-length = refl })
+          (ap (applied s capacity budget M due under) found ∙ same-machine refl refl refl entries-are refl))
 
       pub attribute-matches : P (attributeDue sheet index budget limit mem m (nodeOf held) a)
       unfolding attributeDue machineOf Machine.attributeDue reasonNumber
       attribute-matches =
-          either P (eqb (nodeOf held) null) (λ null. (as-plain on-null, at-frame ∙ rw null, refl))
-          (λ no-null. either P (leb budget (m .steps)) (λ used. (spent, at-frame ∙ rw (no-null, le-ltb (m .steps) budget (leb-true _ _ used)), refl))
-          (λ unused. takes-kept no-null (leb-false budget (m .steps) unused) _ refl))
+          either P (eqb (nodeOf held) null) (λ null. (as-plain on-null, at-frame ∙ rw null, refl)) (λ no-null. takes-kept no-null _ refl)

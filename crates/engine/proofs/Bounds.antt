@@ -17,7 +17,7 @@ use Rattle.saiga.specs.Values.{null, truth, nodeOf, apply}
 use Rattle.saiga.specs.Expressions.{Expr, Scope, Head, base-literal, function-literal, if-head, application-head, attribute-head, this-head, parameter-head, no-head, headOf, operandWidth, readExpr, no-expression, expression, readWhole}
 use Rattle.saiga.specs.Sheet.{Sheet, ruleScope, Definition, undefined, figure, piece-of, definition}
 use Rattle.saiga.specs.Terms.{Occurrence}
-use Rattle.saiga.specs.Caching.{Entry, isKept, Counted, tooDeep}
+use Rattle.saiga.specs.Caching.{Entry, isKept, Counted, circular, tooDeep}
 use Rattle.saiga.proofs.Inference.{cond-passes}
 use Rattle.saiga.proofs.Reading.{read-width}
 use Rattle.engine.specs.Machine.{Next, by-move, by-step, Frame, on-if, on-left, on-skip, on-right, on-node, on-parameter, on-form, Mode, evaluating, returning, Machine, openForms, scopeIn, widthOf, passOver, Move, finishes, moves, takes, stops, readHead, within, branch, applicationDue, defined, applied, attributeDue, give, readNext, moveOf, move}
@@ -54,13 +54,14 @@ within-piece : {s : Sheet} {budget : ℕ} {m m′ : Machine} → Shrinks budget 
 within-piece k w =
     record { cost = k .cost; small = λ p g h. (omega arith, w (h .1)); forms = λ n. omega arith; fit = k .fit }
 
-abbrev Onward : (Machine → Type 0) → Move → Type 0
+-- what holds of the machine that a move leads to, if it leads to one
+abbrev pub Onward : (Machine → Type 0) → Move → Type 0
 Onward P (finishes v) = Unit {0}
 Onward P (moves m) = P m
 Onward P (takes r m) = P m
 Onward P (stops r) = Unit {0}
 
-cond-onward : (P : Machine → Type 0) (b : Bool) (x y : Move) → (b ≡ true → Onward P x) → (b ≡ false → Onward P y) → Onward P (Bool.cond b x y)
+pub cond-onward : (P : Machine → Type 0) (b : Bool) (x y : Move) → (b ≡ true → Onward P x) → (b ≡ false → Onward P y) → Onward P (Bool.cond b x y)
 cond-onward P true x y f g = f refl
 cond-onward P false x y f g = g refl
 
@@ -166,6 +167,7 @@ module _ (s : Sheet) (capacity budget : ℕ) (entries : List Entry) (steps : ℕ
   give-on v l (on-node a ∷ fs) = within-piece (omega arith) (λ w. w)
   give-on v l (on-parameter n a ∷ fs) =
       cond-onward _ (eqb (nodeOf n) null) _ _ (λ h. tt) λ h.
+      cond-onward _ (circular entries (openForms fs) _) _ _ (λ h. tt) λ h.
       cond-onward _ (ltb steps budget) _ _ (λ b.
       cond-onward _ (tooDeep entries (openForms fs) _) _ _ (λ h. tt) λ shallow.
       applied-on v n a l fs (ltb-true steps budget b) _ _ shallow) (λ h. tt)

@@ -26,7 +26,7 @@ use Rattle.stores.proofs.Written.{put-length, put-before, put-there, left-more}
 use Rattle.engine.specs.FrameWords.{kindOf, ifKind, leftKind, skipKind, rightKind, nodeKind, formKind}
 use Rattle.engine.specs.Steps.{Memory, Stepped, goes, waits, finishes, stops, readHead, appended, unlessFound, cacheWrite, closeForm, takeIf, openRule, openFigure, takeKept, attributeDue, give, readNext, stepOf}
 use Rattle.engine.specs.declared.Registers.{Registers}
-use Rattle.engine.proofs.Limited.{until-holds, within-holds, right-holds}
+use Rattle.engine.proofs.Limited.{within-holds, right-holds, missing-holds}
 
 -- ---- Moves
 
@@ -86,17 +86,15 @@ module _ (sheet index : List ℕ) (mem : Memory) (m : Registers) where
   figure-moves n a word none = unchanged
   figure-moves n a word (some v) = write-changes (mem .store) (m .kept) _
 
-  kept-moves : (limit n a : ℕ) (f : Option ℕ) → P (takeKept sheet index limit mem m n a f)
+  kept-moves : (budget limit n a : ℕ) (f : Option ℕ) → P (takeKept sheet index budget limit mem m n a f)
   unfolding takeKept
-  kept-moves limit n a none = either P (leb 64 (m .forms)) {x = stops 16} (λ _. tt) λ _. until-holds P limit m _ (λ _. tt) (λ _. figure-moves n a _ _)
-  kept-moves limit n a (some j) = until-holds P limit m _ (λ _. tt) (λ _. unchanged)
+  kept-moves budget limit n a none =
+      missing-holds P sheet index budget limit mem m n a (λ _. tt) (λ _ _. tt) (λ _ _ _. tt) (λ _ _ _ _. tt) (λ _ _ _ _. figure-moves n a _ _)
+  kept-moves budget limit n a (some j) = within-holds P limit m _ budget (λ _. tt) (λ _ _. tt) (λ _ _. unchanged)
 
   attribute-moves : (budget limit n a : ℕ) → P (attributeDue sheet index budget limit mem m n a)
   unfolding attributeDue
-  attribute-moves budget limit n a =
-      either P (eqb n null) {x = stops 14} (λ _. tt) λ _.
-      either P (leb budget (m .steps)) {x = stops 15} (λ _. tt) λ _.
-      kept-moves limit n a _
+  attribute-moves budget limit n a = either P (eqb n null) {x = stops 14} (λ _. tt) (λ _. kept-moves budget limit n a _)
 
   give-moves : (budget limit skip packed w : ℕ) → P (give sheet index budget limit skip packed mem m w)
   unfolding give closeForm

@@ -2,11 +2,13 @@ pub mod Heads
 pub mod Plugged
 pub mod Simulation
 pub mod Bounds
+pub mod Apart
 pub mod Start
 pub mod Decoding
 pub mod Limited
 pub mod Steps
 pub mod StoreWritten
+pub mod OpenForms
 pub mod Attributes
 pub mod Kept
 pub mod RunMemory

@@ -31,6 +31,7 @@ use Rattle.engine.specs.RunningPiece.{pieceIn, restOf}
 use Rattle.engine.specs.Machine.{Machine, Next, by-move, by-step, openForms, stateOf}
 use Rattle.engine.specs.Good.{Pieces, Good}
 use Rattle.engine.specs.Cost.{measure}
+use Rattle.engine.proofs.Apart.{apart-on}
 use Rattle.engine.proofs.Bounds.{move-falls, small-on, steps-on, represents-sized}
 use Rattle.engine.proofs.Simulation.{Uncounted, same, written, Simulates, simulates, good-on, runs-on}
 use Rattle.engine.proofs.Start.{start, start-small, question-start, pieces}
@@ -100,6 +101,7 @@ start-at sheet index question budget store words forms kept any entries e accept
         index-of = index-of;
         holds = start-holds sheet question store words forms kept any entries passes words-size forms-size;
         good = rw machine good;
+        apart = rw machine (unfold openForms in tt);
         small = rw machine (start-small question entries (question-short s question e form));
         type = B;
         typed = rw (machine, state) (put-in 0 unit (λ n. absurd (false≢true n)) (λ n. absurd (false≢true n)) typed);
@@ -218,6 +220,7 @@ module _ {sheet index question : List ℕ} {budget : ℕ} {first : List ℕ} {le
               index-of = r .index-of;
               holds = holds;
               good = good-on s capacity budget rules (r .good) next;
+              apart = apart-on (r .apart) next;
               small = small-on rules (r .good) (r .small) next;
               type = r .type;
               typed = next-in s sheet (r .accepts) capacity budget (base (r .type)) M M′ (r .good) typed next;

@@ -20,15 +20,15 @@ use Rattle.engine.specs.Good.{Parses, Ready, GoodAt}
 use Rattle.engine.proofs.Bounds.{represents-sized, frames-fit}
 use Rattle.engine.proofs.Heads.{none-inside}
 use Rattle.engine.specs.FrameWords.{kindOf, ifKind, skipKind}
-use Rattle.engine.specs.Decode.{frameLimit, runSize, wordsIn, formsIn, sheetOf, formOccurrence, framesIn, modeOf, machineOf}
+use Rattle.engine.specs.Decode.{frameLimit, formsSize, runSize, wordsIn, formsIn, sheetOf, formOccurrence, framesIn, modeOf, machineOf}
 use Rattle.engine.specs.Steps.{Memory}
 use Rattle.engine.specs.Represents.{Represents}
 use Rattle.engine.specs.Ready.{memoryOf, innermostPlace, NodeReady, ParameterReady, HeadReady, ReadReady, FrameReady}
 use Rattle.engine.specs.declared.Registers.{Registers}
 use Rattle.engine.proofs.Decoding.{WordOf, if-kind, skip-kind, top-frame, frames-count, innermost-form, rest-length}
-use Rattle.engine.proofs.RunMemory.{run-length, form-at}
+use Rattle.engine.proofs.RunMemory.{form-at}
 use Rattle.engine.proofs.Steps.{Fits, head-fits, inside-form}
-use Rattle.engine.proofs.Attributes.{plug-in, form-in}
+use Rattle.engine.proofs.OpenForms.{plug-in, form-in}
 
 -- the occurrence whose definition is running, of what is of a type
 innermost-in : {nodes : ℕ} {sig : List Attribute} (s : Sheet) (fs : List Frame) (t : Running) (l : List ℕ) {T : Ty} → 0 < length (openForms fs)
@@ -70,10 +70,6 @@ module _ {sheet index question : List ℕ} {store : List ℕ} (run : List ℕ) {
   abbrev bytes : List ℕ
   bytes = restOf sheet question (m .forms) (m .at) (m .end)
 
-  -- the array of the run has its length
-  pub run-size : length run ≡ runSize
-  run-size = run-length run (r .holds .words-size) (r .holds .forms-size)
-
   pub rest-reaches : m .at + length bytes ≡ m .end
   rest-reaches = omega (arith, rest-length sheet question (m .forms) (m .at) (m .end) (r .holds .to), r .holds .from)
 
@@ -81,11 +77,11 @@ module _ {sheet index question : List ℕ} {store : List ℕ} (run : List ℕ) {
   unfolding machineOf
   frames-inside = omega (arith, frames-count sheet question (formsIn run) (wordsIn run) (m .frames) (m .forms), frames-fit (represents-sized r))
 
-  pub frame-ready : 0 < m .frames → FrameReady run m
-  frame-ready some = record { size = run-size; framed = some; inside = omega (arith, frames-inside) }
+  pub frame-ready : length run ≡ runSize → 0 < m .frames → FrameReady run m
+  frame-ready size some = record { size = size; framed = some; inside = omega (arith, frames-inside) }
 
   -- the innermost form, where one is open
-  module _ (some : 0 < length (openForms frames)) where
+  module _ (size : length run ≡ runSize) (some : 0 < length (openForms frames)) where
     opened : 1 ≤ m .forms
     opened = omega (arith, r .holds .counted)
 
@@ -99,14 +95,18 @@ module _ {sheet index question : List ℕ} {store : List ℕ} (run : List ℕ) {
         go true h = innermost-in s frames _ _ some h
         go false h = innermost-in s frames _ _ some h
 
+    -- its numbers stand among the forms
+    inside : 4 * (m .forms - 1) + 1 < formsSize
+    inside = omega (arith, opened, r .holds .few)
+
     node-ready : NodeReady run m
     unfolding formOccurrence
     node-ready =
         record {
-          size = run-size;
+          size = size;
           opened = opened;
           few = r .holds .few;
-          small = rw (form-at run (4 * (m .forms - 1)) _ refl) (omega (arith, occurrence-in .node-declared, r .index-of .described .nodes-bound));
+          small = rw (form-at run (4 * (m .forms - 1)) _ refl (omega (arith, inside))) (omega (arith, occurrence-in .node-declared, r .index-of .described .nodes-bound));
         }
 
     pub parameter-ready : ParameterReady sheet run m
@@ -118,16 +118,16 @@ module _ {sheet index question : List ℕ} {store : List ℕ} (run : List ℕ) {
         at (occurrence-in .parameter-in .is-word) in
         record {
           node = node-ready;
-          declared = rw (form-at run (4 * (m .forms - 1)) _ refl) (omega (arith, declared, r .index-of .described .room));
-          word = rw (form-at run (4 * (m .forms - 1)) _ refl, form-at run (4 * (m .forms - 1) + 1) (innermostPlace m + 1) (omega arith)) (word-more _ _ (r .index-of .described .nodes-bound) is-word);
+          declared = rw (form-at run (4 * (m .forms - 1)) _ refl (omega (arith, inside))) (omega (arith, declared, r .index-of .described .room));
+          word = rw (form-at run (4 * (m .forms - 1)) _ refl (omega (arith, inside)), form-at run (4 * (m .forms - 1) + 1) (innermostPlace m + 1) (omega arith) inside) (word-more _ _ (r .index-of .described .nodes-bound) is-word);
           word-small =
-              rw (form-at run (4 * (m .forms - 1) + 1) (innermostPlace m + 1) (omega arith)) (word-small (nodeCount s) _ _ (omega (arith, r .index-of .described .nodes-bound)) is-word);
+              rw (form-at run (4 * (m .forms - 1) + 1) (innermostPlace m + 1) (omega arith) inside) (word-small (nodeCount s) _ _ (omega (arith, r .index-of .described .nodes-bound)) is-word);
         }
 
 -- ---- Reading a head
 
 module _ {sheet index question : List ℕ} {store : List ℕ} (run : List ℕ) {m : Registers}
-    (r : Represents sheet index question (memoryOf store run) m) (evaluates : m .returning ≡ false) where
+    (r : Represents sheet index question (memoryOf store run) m) (size : length run ≡ runSize) (evaluates : m .returning ≡ false) where
   good : GoodAt (s run r) evaluating (bytes run r) (frames run r)
   unfolding machineOf modeOf
   good = rw evaluates at (r .good)
@@ -139,8 +139,8 @@ module _ {sheet index question : List ℕ} {store : List ℕ} (run : List ℕ) {
   head-ready l if-head fits = tt
   head-ready l application-head fits = tt
   head-ready l attribute-head fits = tt
-  head-ready l this-head fits = node-ready run r (inside-form (s run r) _ (λ sc. sc .has-this) refl fits)
-  head-ready l parameter-head fits = parameter-ready run r (inside-form (s run r) _ (λ sc. sc .has-parameter) refl fits)
+  head-ready l this-head fits = node-ready run r size (inside-form (s run r) _ (λ sc. sc .has-this) refl fits)
+  head-ready l parameter-head fits = parameter-ready run r size (inside-form (s run r) _ (λ sc. sc .has-parameter) refl fits)
   head-ready l no-head fits = fits
 
   pub read-ready : ReadReady sheet (bytes run r) run m
@@ -154,7 +154,7 @@ module _ {sheet index question : List ℕ} {store : List ℕ} (run : List ℕ) {
             some = omega arith;
             operand = width-fits _ l (headOf c) fits;
             inside = omega (arith, ap length is, rest-reaches run r);
-            size = run-size run r;
+            size = size;
             room = frames-inside run r;
             head = head-ready l (headOf c) fits;
           }

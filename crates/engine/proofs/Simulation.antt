@@ -15,7 +15,7 @@ use Rattle.saiga.specs.Expressions.{Expr, Head, base-literal, function-literal,
 use Rattle.saiga.specs.Sheet.{Sheet, Definition, undefined, figure, piece-of, definition, wholeExpr, definitionExpr, context}
 use Rattle.saiga.specs.Terms.{Occurrence, val, cond, app, attr, form, put}
 use Rattle.saiga.specs.Plain.{on-null, by-overflow}
-use Rattle.saiga.specs.Caching.{Entry, Running, kept, write, Counted, CondTrue, CondFalse, AppApp, AttrApp, as-plain, spent, depth, Due, finished, counts, writes, halts, duePart, count, condRule, appApp, keptOr, tooDeep, attrApp, due, State, with-value, by, Ended, dueAt}
+use Rattle.saiga.specs.Caching.{Entry, Running, kept, write, Counted, CondTrue, CondFalse, AppApp, AttrApp, as-plain, circle, spent, depth, Due, finished, counts, writes, halts, duePart, count, condRule, appApp, keptOr, circular, tooDeep, attrApp, due, State, with-value, by, Ended, dueAt}
 use Rattle.saiga.specs.Runs.{Runs, Traces}
 use Rattle.saiga.proofs.RunEnds.{after, traces-after}
 use Rattle.saiga.proofs.Keeping.{write-kept}
@@ -161,22 +161,31 @@ module _ (s : Sheet) (capacity budget : ℕ) where
             → dueAt (context s) capacity budget st ≡ carried (λ u. plug s fs u (m .rest)) d
         due-here d u e = part-due fs (m .rest) t (m .entries) (m .steps) d u (is _ ∙ e)
 
-        by-depth : (c : Bool) → tooDeep (m .entries) (openForms fs) o ≡ c → eqb (o .node) null ≡ false → ltb (m .steps) budget ≡ true
-            → Does st (Bool.cond c (stops depth) next)
-        by-depth true e no-null left = (due-here (halts depth) tt (rw (no-null, left, e)), tt)
-        by-depth false e no-null left =
+        by-depth : (c : Bool) → tooDeep (m .entries) (openForms fs) o ≡ c → eqb (o .node) null ≡ false → circular (m .entries) (openForms fs) o ≡ false
+            → ltb (m .steps) budget ≡ true → Does st (Bool.cond c (stops depth) next)
+        by-depth true e no-null no-circle left = (due-here (halts depth) tt (rw (no-null, no-circle, left, e)), tt)
+        by-depth false e no-null no-circle left =
             let (u, g) = applied-opened (kept (m .entries) o) refl in
-            ((_, due-here (counts (AttrApp (o .attribute)) opened) tt (rw (no-null, left, e)), u), g)
+            ((_, due-here (counts (AttrApp (o .attribute)) opened) tt (rw (no-null, no-circle, left, e)), u), g)
 
-        by-budget : (c : Bool) → ltb (m .steps) budget ≡ c → eqb (o .node) null ≡ false
-            → Does st (Bool.cond c (Bool.cond (tooDeep (m .entries) (openForms fs) o) (stops depth) next) (stops spent))
-        by-budget true e no-null = by-depth (tooDeep (m .entries) (openForms fs) o) refl no-null e
-        by-budget false e no-null = (due-here (halts spent) tt (rw (no-null, e)), tt)
+        deep : Move
+        deep = Bool.cond (tooDeep (m .entries) (openForms fs) o) (stops depth) next
+
+        by-budget : (c : Bool) → ltb (m .steps) budget ≡ c → eqb (o .node) null ≡ false → circular (m .entries) (openForms fs) o ≡ false
+            → Does st (Bool.cond c deep (stops spent))
+        by-budget true e no-null no-circle = by-depth (tooDeep (m .entries) (openForms fs) o) refl no-null no-circle e
+        by-budget false e no-null no-circle = (due-here (halts spent) tt (rw (no-null, no-circle, e)), tt)
+
+        by-circle : (c : Bool) → circular (m .entries) (openForms fs) o ≡ c → eqb (o .node) null ≡ false
+            → Does st (Bool.cond c (stops circle) (Bool.cond (ltb (m .steps) budget) deep (stops spent)))
+        by-circle true e no-null = (due-here (halts circle) tt (rw (no-null, e)), tt)
+        by-circle false e no-null = by-budget (ltb (m .steps) budget) refl no-null e
 
         by-null : (c : Bool) → eqb (o .node) null ≡ c
-            → Does st (Bool.cond c (stops (as-plain on-null)) (Bool.cond (ltb (m .steps) budget) (Bool.cond (tooDeep (m .entries) (openForms fs) o) (stops depth) next) (stops spent)))
+            → Does st (Bool.cond c (stops (as-plain on-null))
+            (Bool.cond (circular (m .entries) (openForms fs) o) (stops circle) (Bool.cond (ltb (m .steps) budget) deep (stops spent))))
         by-null true e = (due-here (halts (as-plain on-null)) tt (rw e), tt)
-        by-null false e = by-budget (ltb (m .steps) budget) refl e
+        by-null false e = by-circle (circular (m .entries) (openForms fs) o) refl e
 
   give-does : Pieces s → (v : Value) (fs : List Frame) (l : List ℕ) (entries : List Entry) (steps : ℕ) → Ready s fs l
       → let m = machine (returning v) l fs entries steps in Does (stateOf s m) (give s capacity budget m v fs)

@@ -16,7 +16,7 @@ use Rattle.saiga.specs.declared.Applied.the-variants.{Gives as gives, Overflow 
 use Rattle.saiga.specs.declared.Value.{Value}
 use Rattle.saiga.specs.Sheet.{Sheet}
 use Rattle.saiga.specs.Terms.{Occurrence}
-use Rattle.saiga.specs.Caching.{tooDeep}
+use Rattle.saiga.specs.Caching.{circular, tooDeep}
 use Rattle.saiga.proofs.Preservation.{either}
 use Rattle.saiga.proofs.Tally.{rowOf}
 use Rattle.engine.specs.FrameWords.{kindOf, formKind}
@@ -49,6 +49,7 @@ module _ (s : Sheet) (capacity budget : ℕ) (m : Machine) where
   unfolding attributeDue frameRow rowOf
   attribute-row o v fs =
       either (RowFits _) (eqb (o .node) null) {x = stops _} (λ _. tt) λ _.
+      either (RowFits _) (circular (m .entries) (openForms fs) o) {x = stops _} (λ _. tt) λ _.
       either (RowFits _) (ltb (m .steps) budget) {y = stops _}
       (λ _. either (RowFits _) (tooDeep (m .entries) (openForms fs) o) {x = stops _} (λ _. tt) (λ _. refl))
       (λ _. tt)

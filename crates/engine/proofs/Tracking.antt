@@ -8,10 +8,10 @@ use Prim.Native.Nat.{ℕ, zero, suc, _+_, _*_, _-_, _≤_, _<_}
 use native.Mathlib.Nat.{add-zero, eq-or-lt-of-le}
 use native.Mathlib.Numerals.{add-one}
 use native.Mathlib.Omega.{arith}
-use lib.Dec.{leb, eqb}
+use lib.Dec.{eqb}
 use lib.ListN.{length, take, drop, getD, length-take, length-drop}
 use lib.Seq.{drop-drop, getD-drop}
-use borrow.Author.Tests.{leb-false, eqb-true, eqb-false}
+use borrow.Author.Tests.{eqb-true, eqb-false}
 use Rattle.saiga.specs.Values.{null, nodeOf, ofBytes, truth}
 use Rattle.saiga.specs.declared.Value.{Value}
 use Rattle.saiga.specs.Expressions.{Head, base-literal, function-literal, if-head, application-head, attribute-head, this-head, parameter-head, no-head, headOf}
@@ -38,7 +38,7 @@ use Rattle.engine.proofs.Attributes.{setFour, four-older, four-third, f
 use Rattle.engine.proofs.Decoding.{rest-on}
 use Rattle.engine.proofs.Kept.{by-key}
 use Rattle.engine.proofs.ReadyForCode.{if-starts, skip-starts}
-use Rattle.engine.proofs.Limited.{until-holds, within-holds, right-holds}
+use Rattle.engine.proofs.Limited.{within-holds, right-holds, missing-holds}
 
 -- ---- One piece
 
@@ -231,19 +231,17 @@ module _ {sheet index question notes : List ℕ} {mem : Memory} {m : Registers} 
         figure-tracks w zero e = rule-tracks w e _ refl
         figure-tracks w (suc at) e = goes-on-at _ _ _ _ _ _ _ _ (t .here)
 
-      kept-tracks : eqb n null ≡ false → (limit : ℕ) (f : Option ℕ) → P (takeKept sheet index limit mem m n a f)
+      kept-tracks : eqb n null ≡ false → (budget limit : ℕ) (f : Option ℕ) → P (takeKept sheet index budget limit mem m n a f)
       unfolding takeKept
-      kept-tracks no-null limit none =
-          either P (leb 64 (m .forms)) {x = stops 16} (λ _. tt) λ few.
-          until-holds P limit m _ (λ _. tt) (λ _. figure-tracks no-null (leb-false 64 (m .forms) few) _ _ refl)
-      kept-tracks no-null limit (some j) = until-holds P limit m _ (λ _. tt) (λ _. goes-on-at _ _ _ _ _ _ _ _ (t .here))
+      kept-tracks no-null budget limit none =
+          missing-holds P sheet index budget limit mem m n a (λ _. tt) (λ _ _. tt) (λ _ _ _. tt) (λ _ _ _ _. tt)
+          (λ _ _ few _. figure-tracks no-null few _ _ refl)
+      kept-tracks no-null budget limit (some j) =
+          within-holds P limit m _ budget (λ _. tt) (λ _ _. tt) (λ _ _. goes-on-at _ _ _ _ _ _ _ _ (t .here))
 
       attribute-tracks : (budget limit : ℕ) → P (attributeDue sheet index budget limit mem m n a)
       unfolding attributeDue
-      attribute-tracks budget limit =
-          either P (eqb n null) {x = stops 14} (λ _. tt) λ no-null.
-          either P (leb budget (m .steps)) {x = stops 15} (λ _. tt) λ _.
-          kept-tracks no-null limit _
+      attribute-tracks budget limit = either P (eqb n null) {x = stops 14} (λ _. tt) (λ no-null. kept-tracks no-null budget limit _)
 
     give-tracks : (budget limit skip packed : ℕ) → WidthOf bytes skip → P (give sheet index budget limit skip packed mem m word)
     unfolding give

@@ -20,7 +20,14 @@ keptAfter Waits m = m .kept
 keptAfter Finishes m = m .kept
 keptAfter (Stops number) m = m .kept
 
--- and of the move itself, where it was so many
+-- the number of open forms after it
+unfoldable pub formsAfter : Step → Registers → ℕ
+formsAfter (Goes after) m = after .forms
+formsAfter Waits m = m .forms
+formsAfter Finishes m = m .forms
+formsAfter (Stops number) m = m .forms
+
+-- the kept number after the move itself, where it was so many
 abbrev pub keptIn : ℕ → Stepped → ℕ
 keptIn kept (goes m mem) = m .kept
 keptIn kept waits = kept

@@ -13,6 +13,7 @@ use Rattle.saiga.specs.Terms.{Occurrence}
 use Rattle.saiga.specs.Caching.{Entry}
 use Rattle.saiga.specs.Store.{checkStore}
 use Rattle.engine.specs.RunningPiece.{pieceIn, restOf}
+use Rattle.stores.specs.Walks.{firstCell}
 use Rattle.values.specs.Layout.{parameterAt}
 use Rattle.values.specs.Packed.{valueIn}
 use Rattle.engine.specs.FrameWords.{pairNode, pairAttribute, kindOf, ifKind, leftKind, skipKind, rightKind, nodeKind, formKind, heldFunction, heldAttribute, heldNode}
@@ -34,7 +35,7 @@ entriesOf (accepted entries) = entries
 
 -- ---- The memory of a run
 
--- One lent array: the words of the frames, and behind them the open forms, four numbers to each.
+-- One lent array: the words of the frames, the open forms, four numbers to each, and the index of the open forms.
 -- A frame has two bytes of its piece at least, used or still to come to: so there are at most 128 in each of 65 pieces, the question and the rules of 64
 -- open forms (Bounds.antt).
 abbrev pub frameLimit : ℕ
@@ -43,8 +44,18 @@ frameLimit = (depthLimit + 1) * (expressionLimit / 2)
 abbrev pub formsSize : ℕ
 formsSize = 4 * depthLimit
 
+-- The index of the open forms: the cells of an index over as many keys, and for each form the cell into which it was put.
+abbrev pub openCells : ℕ
+openCells = firstCell depthLimit
+
+abbrev pub opensSize : ℕ
+opensSize = openCells + depthLimit
+
+abbrev pub opensPlace : ℕ
+opensPlace = frameLimit + formsSize
+
 abbrev pub runSize : ℕ
-runSize = frameLimit + formsSize
+runSize = opensPlace + opensSize
 
 -- where the numbers of a form begin, by how many forms are around it
 abbrev pub formPlace : ℕ → ℕ
@@ -54,7 +65,10 @@ unfoldable pub wordsIn : List ℕ → List ℕ
 wordsIn run = take frameLimit run
 
 unfoldable pub formsIn : List ℕ → List ℕ
-formsIn run = drop frameLimit run
+formsIn run = take formsSize (drop frameLimit run)
+
+unfoldable pub opensIn : List ℕ → List ℕ
+opensIn run = drop opensPlace run
 
 -- ---- Frames and forms
 

@@ -1,11 +1,15 @@
--- Machines whose bytes are expressions as far as their frames go.
+-- Machines whose bytes are expressions as far as their frames go, whose open forms are apart, and which are small.
+use mathlib.Core.Bool.{false}
 use mathlib.Core.List.{List, [], _∷_}
+use mathlib.Core.Option.{none}
 use mathlib.Core.Path.{_≡_}
 use Prim.Native.Nat.{ℕ, _+_, _≤_}
 use lib.ListN.{length}
 use Rattle.saiga.specs.Limits.{expressionLimit}
 use Rattle.saiga.specs.Expressions.{Expr, Scope, reads, readExpr, expression, readWhole}
 use Rattle.saiga.specs.Sheet.{Sheet, ruleScope, piece-of, definition}
+use Rattle.saiga.specs.Terms.{Occurrence}
+use Rattle.saiga.specs.Caching.{Entry, kept, isOpen}
 use Rattle.engine.specs.Machine.{Frame, on-if, on-left, on-skip, on-right, on-node, on-parameter, on-form, Mode, evaluating, returning, Machine, openForms, scopeIn, restAt}
 
 -- an expression stands at the front of some bytes
@@ -39,6 +43,18 @@ module _ (s : Sheet) where
 
   abbrev pub Good : Machine → Type 0
   Good m = GoodAt (m .mode) (m .rest) (m .frames)
+
+-- ---- What is open
+
+-- An occurrence whose definition is a rule: a figure is there at once, so its form is never open while a step is due.
+abbrev pub Ruled : Sheet → Occurrence → Type 0
+Ruled s o = (p : List ℕ) × (definition s (o .node) (o .attribute) ≡ piece-of p)
+
+-- The open forms are of rules. No two are of one occurrence, since 20 is given before a form opens that is open already (F-9 of document 02); and none of
+-- their occurrences is kept. So the value of a form that closes is appended wherever there is room.
+abbrev pub Apart : Sheet → List Entry → List Occurrence → Type 0
+Apart s entries [] = Unit {0}
+Apart s entries (o ∷ os) = (kept entries o ≡ none) × (isOpen os o ≡ false) × Ruled s o × Apart s entries os
 
 -- ---- How large a machine grows
 

@@ -3,6 +3,7 @@ pub mod Good
 pub mod RunningPiece
 pub mod FrameWords
 pub mod Decode
+pub mod OpenKeys
 pub mod Steps
 pub mod Represents
 pub mod Ready

@@ -17,7 +17,7 @@ use Rattle.saiga.specs.Expressions.{Expr, literal, Scope, Head, base-literal, f
 use Rattle.saiga.specs.Sheet.{Sheet, ruleScope, questionScope, Definition, undefined, figure, piece-of, definition}
 use Rattle.saiga.specs.Terms.{Occurrence, val, cond, app, attr, form, put}
 use Rattle.saiga.specs.Plain.{on-null, by-overflow}
-use Rattle.saiga.specs.Caching.{Entry, kept, write, Running, Counted, CondTrue, CondFalse, AppApp, AttrApp, Reason, as-plain, spent, depth, tooDeep, State}
+use Rattle.saiga.specs.Caching.{Entry, kept, write, Running, Counted, CondTrue, CondFalse, AppApp, AttrApp, Reason, as-plain, circle, spent, depth, circular, tooDeep, State}
 
 -- ---- States
 
@@ -159,10 +159,11 @@ module _ (s : Sheet) (capacity budget : ℕ) (m : Machine) where
   unfoldable pub attributeDue : Occurrence → List Frame → Move
   attributeDue o fs =
       Bool.cond (eqb (o .node) null) (stops (as-plain on-null))
+      (Bool.cond (circular (m .entries) (openForms fs) o) (stops circle)
       (Bool.cond (ltb (m .steps) budget)
       (Bool.cond (tooDeep (m .entries) (openForms fs) o) (stops depth)
       (takes (AttrApp (o .attribute)) (applied o fs (kept (m .entries) o))))
-      (stops spent))
+      (stops spent)))
 
   -- a value is given to the innermost frame
   unfoldable pub give : Value → List Frame → Move

@@ -12,7 +12,7 @@ use Rattle.expressions.specs.Noted.{WidthOf}
 use Rattle.expressions.specs.Widths.{Starts, headWidth}
 use Rattle.engine.specs.FrameWords.{pairNode, pairAttribute}
 use Rattle.engine.specs.Represents.{Packs}
-use Rattle.engine.specs.Decode.{frameLimit, runSize, formPlace, wordsIn, formsIn}
+use Rattle.engine.specs.Decode.{frameLimit, runSize, formPlace, wordsIn, formsIn, opensIn}
 use Rattle.engine.specs.Steps.{Memory, writeWord}
 use Rattle.engine.specs.declared.Registers.{Registers}
 
@@ -73,11 +73,12 @@ pub record FrameReady (run : List ℕ) (m : Registers) : Type 0 where
   pub framed : 1 ≤ m .frames
   pub inside : m .frames ≤ frameLimit
 
--- The innermost frame's word is made another, which holds the value in a word.
+-- The innermost frame's word is made another, which holds the value in a word. The index of the open forms is as it was.
 pub record Rewrites (m : Registers) (run run′ : List ℕ) (word : ℕ → ℕ) : Type 0 where
   pub packed : ℕ
   pub packs : Packs (m .value) packed
   pub written : (store : List ℕ) → memoryOf store run′ ≡ writeWord (memoryOf store run) (m .frames - 1) (word packed)
+  pub beyond : opensIn run′ ≡ opensIn run
 
 -- An expression stands at the front of the rest, to be passed over. Inside a form its width is noted.
 pub record PassReady (notes e : List ℕ) (m : Registers) : Type 0 where

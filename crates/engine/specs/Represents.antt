@@ -14,11 +14,11 @@ use Rattle.saiga.specs.Sound.{RunningIn}
 use Rattle.sheets.specs.Scan.{Indexed}
 use Rattle.values.specs.Packed.{valueIn, packedLimit}
 use Rattle.engine.specs.FrameWords.{kindOf, leftKind, nodeKind}
-use Rattle.engine.specs.Machine.{Machine, finishes, takes, stops, move, Next, stateOf}
+use Rattle.engine.specs.Machine.{Machine, openForms, finishes, takes, stops, move, Next, stateOf}
 use Rattle.engine.specs.Decode.{sheetOf, machineOf, Holds}
 use Rattle.engine.specs.Steps.{Memory, Stepped, goes, waits}
 use Rattle.engine.specs.declared.Registers.{Registers}
-use Rattle.engine.specs.Good.{Good, Small}
+use Rattle.engine.specs.Good.{Good, Apart, Small}
 
 -- the machine that registers and memory hold
 abbrev pub machineIn : List ℕ → List ℕ → Memory → Registers → Machine
@@ -27,12 +27,13 @@ machineIn sheet question mem m = machineOf sheet question (mem .store) (mem .wor
 abbrev pub HoldsIn : List ℕ → List ℕ → Memory → Registers → Type 0
 HoldsIn sheet question mem m = Holds sheet question (mem .store) (mem .words) (mem .forms) m
 
--- The sheet is accepted and indexed; registers and memory hold a machine that reads expressions, is small and is of a type.
+-- The sheet is accepted and indexed; registers and memory hold a machine that reads expressions, has its open forms apart, is small and is of a type.
 pub record Represents (sheet index question : List ℕ) (mem : Memory) (m : Registers) : Type 0 where
   pub accepts : checkSheet sheet ≡ accepted (sheetOf sheet)
   pub index-of : Indexed sheet (sheetOf sheet) index
   pub holds : HoldsIn sheet question mem m
   pub good : Good (sheetOf sheet) (machineIn sheet question mem m)
+  pub apart : Apart (sheetOf sheet) (machineIn sheet question mem m .entries) (openForms (machineIn sheet question mem m .frames))
   pub small : Small (machineIn sheet question mem m)
   pub type : Base
   pub typed : RunningIn (nodeCount (sheetOf sheet)) (sheetOf sheet .attributes) (stateOf (sheetOf sheet) (machineIn sheet question mem m) .term) (base type)

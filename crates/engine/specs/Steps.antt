@@ -22,6 +22,7 @@ use Rattle.saiga.specs.Store.{fieldBytes}
 use Rattle.stores.specs.declared.Key.{Key}
 use Rattle.stores.specs.Keys.{findKey, keyIn, valueWord, fieldsFor, putAt}
 use Rattle.engine.specs.Decode.{formOccurrence}
+use Rattle.engine.specs.OpenKeys.{keyOpen}
 use Rattle.engine.specs.declared.Registers.{Registers}
 
 -- The memory that a move may write, besides the store's index.
@@ -122,14 +123,24 @@ takeIf skip mem m false =
 abbrev pub untilLimit : ℕ → Registers → Stepped → Stepped
 untilLimit limit m next = cond (leb limit (m .steps)) waits next
 
--- the limits of a counted step other than AttrApp
+-- the limits of a counted step other than AttrApp of what is not kept
 unfoldable pub within : ℕ → ℕ → Registers → Stepped → Stepped
 within budget limit m next = cond (leb budget (m .steps)) (stops 15) (untilLimit limit m next)
+
+-- the limits of AttrApp of what is not kept, which needs room for a form
+abbrev pub limited : ℕ → ℕ → Registers → Stepped → Stepped
+limited budget limit m next = cond (leb budget (m .steps)) (stops 15) (cond (leb depthLimit (m .forms)) (stops 16) (untilLimit limit m next))
 
 -- AppApp, with what the function gives: 17, then the limits. Overflow that is due at the limit stops the run there.
 unfoldable pub takeRight : ℕ → ℕ → Memory → Registers → Applied → Stepped
 takeRight budget limit mem m (gives v) = within budget limit m (goes (answered m (m .kept) v) mem)
 takeRight budget limit mem m overflows = stops 17
+
+-- a figure is answered with what CacheWrite leaves
+abbrev pub keepsFigure : Memory → Registers → ℕ → ℕ → ℕ → Value → Stepped
+keepsFigure mem m n a word v =
+    let w = cacheWrite (mem .store) (m .kept) (fieldsFor record { node = n; attribute = a; word = word } v) in
+    goes (answered m (w .1) v) record { store = w .0; words = mem .words; forms = mem .forms }
 
 module _ (sheet index : List ℕ) where
   -- AttrApp of an occurrence that is not kept: its figure, or its rule inside a form
@@ -155,23 +166,26 @@ module _ (sheet index : List ℕ) where
 
   unfoldable pub openFigure : Memory → Registers → ℕ → ℕ → ℕ → Option Value → Stepped
   openFigure mem m n a word none = openRule mem m n a word
-  openFigure mem m n a word (some v) =
-      let w = cacheWrite (mem .store) (m .kept) (fieldsFor record { node = n; attribute = a; word = word } v) in
-      goes (answered m (w .1) v) record { store = w .0; words = mem .words; forms = mem .forms }
+  openFigure mem m n a word (some v) = keepsFigure mem m n a word v
 
-  -- AttrApp: a kept value before the definition, for which depth is tested. Depth that is due at the limit stops the run there.
-  unfoldable pub takeKept : ℕ → Memory → Registers → ℕ → ℕ → Option ℕ → Stepped
-  takeKept limit mem m n a none =
-      cond (leb depthLimit (m .forms)) (stops 16)
-      (untilLimit limit m (openFigure mem m n a (toWord (m .value)) (indexed (getD index (figurePlace n a) 0) (figureAt sheet a))))
-  takeKept limit mem m n a (some j) =
-      untilLimit limit m (goes (answered m (m .kept) (ofWord (baseOf (resultAt sheet a)) (valueWord (mem .store) j))) mem)
+  -- of one that has a rule, with a circle and the limits before it
+  abbrev pub ruleDue : ℕ → ℕ → Memory → Registers → ℕ → ℕ → ℕ → Stepped
+  ruleDue budget limit mem m n a word =
+      cond (keyOpen (mem .forms) (m .forms) record { node = n; attribute = a; word = word }) (stops 20) (limited budget limit m (openRule mem m n a word))
+
+  -- AttrApp: a kept value before the definition. Where none is kept, a circle is tested for, then the budget, then depth. A circle and depth that are due
+  -- at the limit stop the run there.
+  unfoldable pub takeKept : ℕ → ℕ → Memory → Registers → ℕ → ℕ → Option ℕ → Stepped
+  takeKept budget limit mem m n a none =
+      cond (keyOpen (mem .forms) (m .forms) record { node = n; attribute = a; word = toWord (m .value) }) (stops 20)
+      (limited budget limit m (openFigure mem m n a (toWord (m .value)) (indexed (getD index (figurePlace n a) 0) (figureAt sheet a))))
+  takeKept budget limit mem m n a (some j) =
+      within budget limit m (goes (answered m (m .kept) (ofWord (baseOf (resultAt sheet a)) (valueWord (mem .store) j))) mem)
 
   unfoldable pub attributeDue : ℕ → ℕ → Memory → Registers → ℕ → ℕ → Stepped
   attributeDue budget limit mem m n a =
       cond (eqb n null) (stops 14)
-      (cond (leb budget (m .steps)) (stops 15)
-      (takeKept limit mem m n a (findKey (mem .store) (m .kept) record { node = n; attribute = a; word = toWord (m .value) })))
+      (takeKept budget limit mem m n a (findKey (mem .store) (m .kept) record { node = n; attribute = a; word = toWord (m .value) }))
 
   -- The value goes to the innermost frame, whose word is `w`. `skip` is the width of the expression at the front of the rest, and `packed`
   -- the value in a word.

@@ -9,6 +9,8 @@ use saiga::Applied;
 use saiga::Value;
 use saiga::limits::DEPTH_LIMIT;
 use saiga::limits::EXPRESSION_LIMIT;
+use stores::BUCKETS;
+use stores::FAN_OUT;
 ghost use mathlib.Core.List.{List};
 ghost use mathlib.Core.Path.{_≡_};
 ghost use Prim.Native.Nat.{ℕ, _+_, _*_, _/_, _%_, _^_, _≤_, _<_};
@@ -20,7 +22,7 @@ ghost use Rattle.engine.specs.FrameWords.{rightWord, heldFunction, param
 ghost use Rattle.expressions.specs.Noted.{WidthOf};
 ghost use Rattle.engine.specs.RunningPiece.{pieceIn, restOf};
 ghost use Rattle.engine.specs.Steps.{goes, returned as returnedTo, pushed as pushedOn, answered as answeredBy, turned as turnedTo, thisNode, thisParameter, readNext, takeIf};
-ghost use Rattle.engine.specs.Decode.{formsIn};
+ghost use Rattle.engine.specs.Decode.{formsIn, opensIn};
 ghost use Rattle.engine.specs.Ready.{memoryOf, NodeReady, ParameterReady, ReadReady, FrameReady, Rewrites, PassReady, Passes, skipped};
 
 // The machine's state by value: whether a value is being returned, the rest of the running piece from `at` to `end`, the numbers of
@@ -50,11 +52,15 @@ pub enum Step {
     Stops(u32),
 }
 
-// The memory of a run is one array: the words of the frames, and behind them four numbers for each form that can be open: its node × 32 + attribute, its
-// parameter in four bytes, and where the piece around it goes on and ends.
+// The memory of a run is one array: the words of the frames; behind them four numbers for each form that can be open: its node × 32 + attribute, its
+// parameter in four bytes, and where the piece around it goes on and ends; and the index of the open forms, whose cells are followed by a place for each form.
 const FRAME_LIMIT: usize = (DEPTH_LIMIT + 1) * (EXPRESSION_LIMIT / 2);
 
-pub const RUN_SIZE: usize = FRAME_LIMIT + 4 * DEPTH_LIMIT;
+pub const OPENS_PLACE: usize = FRAME_LIMIT + 4 * DEPTH_LIMIT;
+
+pub const OPEN_CELLS: usize = BUCKETS + FAN_OUT * DEPTH_LIMIT;
+
+pub const RUN_SIZE: usize = OPENS_PLACE + OPEN_CELLS + DEPTH_LIMIT;
 
 // The rest of the running piece: of the question while no form is open, of the sheet inside a form.
 pub fn running<'a>(
@@ -166,6 +172,7 @@ pub fn read_head(sheet: &[u8], e: &[u8], memory: &mut [u64], m: Registers) -> Re
     ensures { λ r. ⌜ ((index : List ℕ) (store : List ℕ)
         → goes r (memoryOf store (now (memory .exit)))
         ≡ readNext (now (sheet .entry)) index (memoryOf store (now (memory .entry))) m (now (e .entry))) ⌝ }
+    ensures { λ r. ⌜ opensIn (now (memory .exit)) ≡ opensIn (now (memory .entry)) ⌝ }
 {
     let top = m.frames;
     let head = e[0];
@@ -256,6 +263,7 @@ pub fn take_if(notes: &[u8], e: &[u8], memory: &mut [u64], m: Registers) -> Regi
     requires { ⌜ FrameReady (now memory) m × (m .at + length (now e) < 2 ^ 64) × (m .steps + 1 < 2 ^ 64) ⌝ }
     ensures { λ r. ⌜ Passes (now (e .entry)) (λ skip. (store : List ℕ)
         → goes r (memoryOf store (now (memory .exit))) ≡ takeIf skip (memoryOf store (now (memory .entry))) m (truth (m .value))) ⌝ }
+    ensures { λ r. ⌜ opensIn (now (memory .exit)) ≡ opensIn (now (memory .entry)) ⌝ }
 {
     let value = m.value;
     if values::truth(value) {

@@ -5,14 +5,14 @@ use mathlib.Core.List.{List, [], _∷_}
 use mathlib.Core.Path.{_≡_}
 use Prim.Native.Nat.{ℕ, _%_, _≤_, _<_}
 use native.Mathlib.Omega.{arith}
-use lib.Dec.{leb, eqb}
+use lib.Dec.{eqb}
 use Rattle.saiga.specs.Values.{null, truth}
 use Rattle.saiga.specs.declared.Value.{Value}
 use Rattle.saiga.specs.Expressions.{Head, base-literal, function-literal, if-head, application-head, attribute-head, this-head, parameter-head, no-head, headOf}
 use Rattle.engine.specs.declared.Registers.{Registers}
 use Rattle.engine.specs.Steps.{Memory, Stepped, goes, waits, finishes, stops, readHead, takeIf, within, closeForm, openRule, openFigure, takeKept, attributeDue, give, readNext, stepOf}
 use Rattle.saiga.proofs.Preservation.{either}
-use Rattle.engine.proofs.Limited.{until-holds, within-holds, right-holds}
+use Rattle.engine.proofs.Limited.{within-holds, right-holds, missing-holds}
 
 module _ (sheet index : List ℕ) (limit : ℕ) (mem : Memory) (m : Registers) where
   -- the count stays within the limit
@@ -48,18 +48,15 @@ module _ (sheet index : List ℕ) (limit : ℕ) (mem : Memory) (m : Registers) w
   figure-counts before n a word none = λ h. omega arith
   figure-counts before n a word (some v) = λ h. omega arith
 
-  kept-counts : (n a : ℕ) (f : Option ℕ) → Counts (takeKept sheet index limit mem m n a f)
+  kept-counts : (budget n a : ℕ) (f : Option ℕ) → Counts (takeKept sheet index budget limit mem m n a f)
   unfolding takeKept
-  kept-counts n a none =
-      either Counts (leb 64 (m .forms)) {x = stops 16} (λ _. tt) (λ _. until-holds Counts limit m _ (λ _. tt) (λ before. figure-counts before n a _ _))
-  kept-counts n a (some j) = until-holds Counts limit m _ (λ _. tt) (λ before h. omega arith)
+  kept-counts budget n a none =
+      missing-holds Counts sheet index budget limit mem m n a (λ _. tt) (λ _ _. tt) (λ _ _ _. tt) (λ _ _ _ _. tt) (λ _ _ _ before. figure-counts before n a _ _)
+  kept-counts budget n a (some j) = within-holds Counts limit m _ budget (λ _. tt) (λ _ _. tt) (λ _ before h. omega arith)
 
   attribute-counts : (budget n a : ℕ) → Counts (attributeDue sheet index budget limit mem m n a)
   unfolding attributeDue
-  attribute-counts budget n a =
-      either Counts (eqb n null) {x = stops 14} (λ _. tt) λ _.
-      either Counts (leb budget (m .steps)) {x = stops 15} (λ _. tt) λ _.
-      kept-counts n a _
+  attribute-counts budget n a = either Counts (eqb n null) {x = stops 14} (λ _. tt) (λ _. kept-counts budget n a _)
 
   give-counts : (budget skip packed w : ℕ) → Counts (give sheet index budget limit skip packed mem m w)
   unfolding give closeForm

@@ -1,8 +1,8 @@
 -- A value is given to a frame, by the kind of the frame.
 use mathlib.Core.Bool.{Bool, true, false}
 use mathlib.Core.List.{List}
-use mathlib.Core.Path.{_≡_, refl, sym, _∙_}
-use Prim.Native.Nat.{ℕ, _-_, _%_, _≤_}
+use mathlib.Core.Path.{_≡_, refl, sym, ap, _∙_}
+use Prim.Native.Nat.{ℕ, suc, _-_, _%_, _≤_}
 use native.Mathlib.Omega.{arith}
 use lib.ListN.{getD}
 use borrow.Author.Tests.{ne-eqb}
@@ -12,18 +12,20 @@ use Rattle.values.specs.Packed.{valueIn}
 use Rattle.stores.specs.Keys.{Linked}
 use Rattle.engine.specs.declared.Registers.{Registers}
 use Rattle.engine.specs.FrameWords.{kindOf, ifKind, leftKind, skipKind, rightKind, nodeKind, formKind, rightWord, heldFunction, heldAttribute, parameterWord, heldNode}
-use Rattle.engine.specs.Decode.{wordsIn}
-use Rattle.engine.specs.Steps.{Memory, Stepped, goes, writeWord, turned, takeIf, takeRight, within, closeForm, attributeDue, give}
+use Rattle.engine.specs.Decode.{wordsIn, formsIn, opensIn}
+use Rattle.engine.specs.Steps.{Memory, Stepped, goes, waits, finishes, stops, writeWord, turned, takeIf, takeRight, within, closeForm, attributeDue, give}
 use Rattle.engine.specs.Represents.{PacksIn}
 use Rattle.engine.specs.Ready.{memoryOf, Rewrites, Passes, skipped}
 use Rattle.expressions.proofs.Widths.{width-of}
 use Rattle.engine.proofs.RunMemory.{frame-at}
 use Rattle.engine.specs.declared.Step.{Step}
 use Rattle.engine.specs.declared.Step.the-variants.{Goes, Waits, Finishes, Stops}
-use Rattle.engine.specs.CodeSteps.{steppedOf, keptAfter, keptIn, Still}
+use Rattle.engine.specs.CodeSteps.{steppedOf, keptAfter, formsAfter, keptIn, Still}
+use Rattle.opens.specs.Opened.{Opened}
+use Rattle.opens.proofs.Opened.{opened-fewer}
 use Rattle.runs.specs.Moves.{GivesTo}
-use Rattle.runs.proofs.Limits.{within-keeps, right-keeps, kept-by}
-use Rattle.runs.proofs.ReadyForAttributes.{Given, OtherKind, top-inside, late-kind}
+use Rattle.runs.proofs.Limits.{within-keeps, right-keeps, kept-by, FormsStay, within-stays, right-stays, opened-by}
+use Rattle.runs.proofs.ReadyForAttributes.{Given, OtherKind, top-inside, late-kind, form-open}
 
 -- one kind is no other
 no-kind : {kind k : ℕ} (j : ℕ) → kind ≡ k → (k ≡ j → ⊥) → kind ≡ j → ⊥
@@ -40,6 +42,18 @@ if-keeps : (skip : ℕ) (mem : Memory) (m : Registers) (b : Bool) → keptIn (m 
 unfolding takeIf
 if-keeps skip mem m true = refl
 if-keeps skip mem m false = refl
+
+if-stays : (skip : ℕ) (mem : Memory) (m : Registers) (b : Bool) → FormsStay mem m (takeIf skip mem m b)
+unfolding takeIf
+if-stays skip mem m true = (refl, refl)
+if-stays skip mem m false = (refl, refl)
+
+-- the number of open forms that a move goes on with
+formsOf : ℕ → Stepped → ℕ
+formsOf k (goes m mem) = m .forms
+formsOf k waits = k
+formsOf k finishes = k
+formsOf k (stops number) = k
 
 module _ (sheet index notes question store links run : List ℕ) (budget limit : ℕ) (m : Registers) (k : ℕ)
     (given : Given sheet index notes question store links run budget limit m k) where
@@ -59,8 +73,8 @@ module _ (sheet index notes question store links run : List ℕ) (budget limit :
   abbrev rest : List ℕ
   rest = restOf sheet question (m .forms) (m .at) (m .end)
 
-  abbrev Gives : Memory → List ℕ → Step → Type 0
-  Gives mem′ links′ r = GivesTo sheet index question budget limit mem mem′ links′ m w r
+  abbrev Gives : Memory → List ℕ → List ℕ → Step → Type 0
+  Gives mem′ links′ opens′ r = GivesTo sheet index question budget limit mem mem′ links′ opens′ m w r
 
   -- nothing is packed
   unpacked : (w % 8 ≡ 1 → ⊥) → (w % 8 ≡ 4 → ⊥) → PacksIn mem m 0
@@ -71,11 +85,16 @@ module _ (sheet index notes question store links run : List ℕ) (budget limit :
       → Linked store (keptAfter r m) links
   unwritten r mem′ e keeps = rw (kept-by r mem′ m, e, keeps) (given .ready .linked)
 
+  -- the index of the open forms, where none is opened or closed
+  unopened : (r : Step) (mem′ : Memory) {st : Stepped} {opens′ : List ℕ} → steppedOf r mem′ ≡ st → FormsStay mem m st → Still r mem mem′
+      → opens′ ≡ opensIn run → Opened (mem′ .forms) opens′ (formsAfter r m)
+  unopened r mem′ e stays still beyond = rw beyond (opened-by r mem mem′ (opensIn run) m (given .ready .opened) (rw e stays) still)
+
   pub gives-if : (e run′ : List ℕ) (r : Step) → k ≡ ifKind → e ≡ rest
       → Passes e (λ skip. (store : List ℕ) → steppedOf r (memoryOf store run′) ≡ within budget limit m (takeIf skip (memoryOf store run) m (truth (m .value))))
-      → ((s : List ℕ) → Still r (memoryOf s run) (memoryOf s run′)) → Gives (memoryOf store run′) links r
+      → ((s : List ℕ) → Still r (memoryOf s run) (memoryOf s run′)) → opensIn run′ ≡ opensIn run → Gives (memoryOf store run′) links (opensIn run′) r
   unfolding give
-  gives-if e run′ r key at passes still =
+  gives-if e run′ r key at passes still beyond =
       let kind = of-kind key in
       record {
         skip = passes .skip;
@@ -85,11 +104,14 @@ module _ (sheet index notes question store links run : List ℕ) (budget limit :
         moved = rw kind (passes .after store);
         still = still store;
         linked = unwritten r (memoryOf store run′) (passes .after store) (within-keeps budget limit m _ (if-keeps (passes .skip) mem m (truth (m .value))));
+        opened =
+            unopened r (memoryOf store run′) (passes .after store) (within-stays budget limit mem m _ (if-stays (passes .skip) mem m (truth (m .value))))
+            (still store) beyond;
       }
 
   pub gives-right : (r : Step) → k ≡ rightKind
       → ((mem : Memory) → steppedOf r mem ≡ takeRight budget limit mem m (apply (valueIn (heldFunction w)) (m .value)))
-      → Gives mem links r
+      → Gives mem links (opensIn run) r
   unfolding give
   gives-right r key steps =
       let kind = of-kind key in
@@ -102,13 +124,14 @@ module _ (sheet index notes question store links run : List ℕ) (budget limit :
         moved = rw kind (steps mem);
         still = still-same r mem;
         linked = unwritten r mem (steps mem) (right-keeps budget limit mem m _);
+        opened = unopened r mem (steps mem) (right-stays budget limit mem m _) (still-same r mem) refl;
       }
 
   -- the innermost frame is made one that holds the value
   module _ (held : ℕ → ℕ) (run′ : List ℕ) {after : Registers} (turns : after ≡ turned m) (rewrites : Rewrites m run run′ held) where
     turned-to : ((skip : ℕ) → goes (turned m) (writeWord mem (m .frames - 1) (held (rewrites .packed)))
         ≡ give sheet index budget limit skip (rewrites .packed) mem m w)
-        → Gives (memoryOf store run′) links (Goes after)
+        → Gives (memoryOf store run′) links (opensIn run′) (Goes after)
     unfolding steppedOf keptAfter
     turned-to by-kind =
         let (skip, width) = width-of rest in
@@ -120,20 +143,24 @@ module _ (sheet index notes question store links run : List ℕ) (budget limit :
           moved = rw (turns, rewrites .written store) (by-kind skip);
           still = tt;
           linked = rw turns (given .ready .linked);
+          opened =
+              unopened (Goes after) (memoryOf store run′) refl (ap (λ after. after .forms) (rewrites .written store), ap (λ m. m .forms) turns) tt
+              (rewrites .beyond);
         }
 
   pub gives-left : (run′ : List ℕ) (after : Registers) → k ≡ leftKind → after ≡ turned m → Rewrites m run run′ rightWord
-      → Gives (memoryOf store run′) links (Goes after)
+      → Gives (memoryOf store run′) links (opensIn run′) (Goes after)
   unfolding give
   gives-left run′ after key turns rewrites = turned-to rightWord run′ turns rewrites (λ skip. rw (of-kind key))
 
   pub gives-node : (run′ : List ℕ) (after : Registers) (a : ℕ) → k ≡ nodeKind → after ≡ turned m → a ≡ heldAttribute w → Rewrites m run run′ (parameterWord a)
-      → Gives (memoryOf store run′) links (Goes after)
+      → Gives (memoryOf store run′) links (opensIn run′) (Goes after)
   unfolding give
   gives-node run′ after a key turns attribute rewrites =
       turned-to (parameterWord (heldAttribute w)) run′ turns (rw attribute at rewrites) (λ skip. rw (of-kind key))
 
-  pub gives-skip : (e : List ℕ) (after : Registers) → k ≡ skipKind → e ≡ rest → Passes e (λ skip. after ≡ skipped m skip) → Gives mem links (Goes after)
+  pub gives-skip : (e : List ℕ) (after : Registers) → k ≡ skipKind → e ≡ rest → Passes e (λ skip. after ≡ skipped m skip)
+      → Gives mem links (opensIn run) (Goes after)
   unfolding give steppedOf keptAfter
   gives-skip e after key at passes =
       let kind = of-kind key in
@@ -145,14 +172,17 @@ module _ (sheet index notes question store links run : List ℕ) (budget limit :
         moved = rw (kind, passes .after);
         still = tt;
         linked = rw (passes .after) (given .ready .linked);
+        opened = unopened (Goes after) mem refl (refl, ap (λ m. m .forms) (passes .after)) tt refl;
       }
 
   -- a form is closed
   pub gives-form : (store′ links′ : List ℕ) (after : Registers) → k ≡ formKind → goes after (memoryOf store′ run) ≡ closeForm (memoryOf store run) m
-      → Linked store′ (after .kept) links′ → Gives (memoryOf store′ run) links′ (Goes after)
-  unfolding give steppedOf keptAfter
+      → Linked store′ (after .kept) links′ → Gives (memoryOf store′ run) links′ (opensIn run) (Goes after)
+  unfolding give steppedOf keptAfter formsAfter closeForm formsOf
   gives-form store′ links′ after key closed linked =
       let kind = of-kind key in
+      let fewer : after .forms ≡ m .forms - 1 = ap (formsOf 0) closed in
+      let one-open : m .forms ≡ suc (m .forms - 1) = omega (arith, form-open sheet index notes question store links run budget limit m k given key) in
       let (skip, width) = width-of rest in
       record {
         skip = skip;
@@ -162,14 +192,15 @@ module _ (sheet index notes question store links run : List ℕ) (budget limit :
         moved = rw kind closed;
         still = tt;
         linked = linked;
+        opened = rw fewer (opened-fewer (formsIn run) (opensIn run) (m .forms - 1) (rw one-open at (given .ready .opened)));
       }
 
   -- AttrApp
-  pub gives-attribute : (mem′ : Memory) (links′ : List ℕ) (r : Step) → OtherKind k
+  pub gives-attribute : (mem′ : Memory) (links′ opens′ : List ℕ) (r : Step) → OtherKind k
       → steppedOf r mem′ ≡ attributeDue sheet index budget limit mem m (nodeOf (valueIn (heldNode w))) (heldAttribute w)
-      → Linked (mem′ .store) (keptAfter r m) links′ → Still r mem mem′ → Gives mem′ links′ r
+      → Linked (mem′ .store) (keptAfter r m) links′ → Opened (mem′ .forms) opens′ (formsAfter r m) → Still r mem mem′ → Gives mem′ links′ opens′ r
   unfolding give
-  gives-attribute mem′ links′ r other due linked still =
+  gives-attribute mem′ links′ opens′ r other due linked opened still =
       let late : 5 ≤ kindOf w = rw (given .kind) at (late-kind other) in
       let no-form : kindOf w ≡ 6 → ⊥ = rw (given .kind) at (other .1) in
       let (skip, width) = width-of rest in
@@ -190,4 +221,5 @@ module _ (sheet index notes question store links run : List ℕ) (budget limit :
             due;
         still = still;
         linked = linked;
+        opened = opened;
       }

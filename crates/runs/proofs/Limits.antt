@@ -1,33 +1,21 @@
 -- The limits of a counted step, in the order of their numbers.
+use mathlib.Core.List.{List}
 use mathlib.Core.Path.{_≡_, refl, _∙_}
 use Prim.Native.Nat.{ℕ, _≤_, _<_}
-use borrow.Author.Tests.{le-leb, lt-leb}
 use Rattle.saiga.specs.declared.Value.{Value}
 use Rattle.saiga.specs.declared.Applied.{Applied}
 use Rattle.saiga.specs.declared.Applied.the-variants.{Gives as gives, Overflow as overflows}
 use Rattle.engine.specs.declared.Registers.{Registers}
-use Rattle.engine.specs.Steps.{Memory, Stepped, goes, waits, stops, answered, within, takeRight}
+use Rattle.engine.specs.Steps.{Memory, Stepped, goes, waits, finishes, stops, answered, within, takeRight}
 use Rattle.engine.specs.declared.Step.{Step}
 use Rattle.engine.specs.declared.Step.the-variants.{Goes, Waits, Finishes, Stops}
-use Rattle.engine.specs.CodeSteps.{steppedOf, keptAfter, keptIn}
-use Rattle.engine.proofs.Limited.{within-holds, right-holds}
+use Rattle.engine.specs.CodeSteps.{steppedOf, keptAfter, formsAfter, keptIn, Still}
+use Rattle.opens.specs.Opened.{Opened}
+use Rattle.engine.proofs.Limited.{within-spent, within-waits, within-goes, within-holds, right-holds}
 
-module _ (budget limit : ℕ) (m : Registers) (next : Stepped) where
-  pub within-spent : budget ≤ m .steps → stops 15 ≡ within budget limit m next
-  unfolding within
-  within-spent used = rw (le-leb _ _ used)
-
-  pub within-waits : m .steps < budget → limit ≤ m .steps → waits ≡ within budget limit m next
-  unfolding within
-  within-waits left reached = rw (lt-leb _ _ left, le-leb _ _ reached)
-
-  pub within-goes : m .steps < budget → m .steps < limit → next ≡ within budget limit m next
-  unfolding within
-  within-goes left before = rw (lt-leb _ _ left, lt-leb _ _ before)
-
-  -- they keep what the step keeps
-  pub within-keeps : {kept : ℕ} → keptIn kept next ≡ kept → keptIn kept (within budget limit m next) ≡ kept
-  within-keeps {kept} keeps = within-holds (λ st. keptIn kept st ≡ kept) limit m next budget (λ _. refl) (λ _ _. refl) (λ _ _. keeps)
+-- The limits of a counted step keep what the step keeps.
+pub within-keeps : (budget limit : ℕ) (m : Registers) (next : Stepped) {kept : ℕ} → keptIn kept next ≡ kept → keptIn kept (within budget limit m next) ≡ kept
+within-keeps budget limit m next {kept} keeps = within-holds (λ st. keptIn kept st ≡ kept) limit m next budget (λ _. refl) (λ _ _. refl) (λ _ _. keeps)
 
 -- AppApp, with what the function gives: overflow, or the limits.
 module _ (budget limit : ℕ) (mem : Memory) (m : Registers) (r a : Applied) (is : r ≡ a) where
@@ -51,6 +39,28 @@ module _ (budget limit : ℕ) (mem : Memory) (m : Registers) (r a : Applied) (is
 
 pub right-keeps : (budget limit : ℕ) (mem : Memory) (m : Registers) (a : Applied) → keptIn (m .kept) (takeRight budget limit mem m a) ≡ m .kept
 right-keeps budget limit mem m a = right-holds (λ st. keptIn (m .kept) st ≡ m .kept) budget limit mem m a refl refl refl (λ v _. refl)
+
+-- A move leaves the open forms as they are, if it goes on.
+abbrev pub FormsStay : Memory → Registers → Stepped → Type 0
+FormsStay mem m (goes m′ mem′) = (mem′ .forms ≡ mem .forms) × (m′ .forms ≡ m .forms)
+FormsStay mem m waits = Unit {0}
+FormsStay mem m finishes = Unit {0}
+FormsStay mem m (stops number) = Unit {0}
+
+pub within-stays : (budget limit : ℕ) (mem : Memory) (m : Registers) (next : Stepped) → FormsStay mem m next → FormsStay mem m (within budget limit m next)
+within-stays budget limit mem m next stays = within-holds (FormsStay mem m) limit m next budget (λ _. tt) (λ _ _. tt) (λ _ _. stays)
+
+pub right-stays : (budget limit : ℕ) (mem : Memory) (m : Registers) (a : Applied) → FormsStay mem m (takeRight budget limit mem m a)
+right-stays budget limit mem m a = right-holds (FormsStay mem m) budget limit mem m a tt tt tt (λ v _. (refl, refl))
+
+-- Then their index goes on holding.
+pub opened-by : (r : Step) (mem mem′ : Memory) (opens : List ℕ) (m : Registers) → Opened (mem .forms) opens (m .forms) → FormsStay mem m (steppedOf r mem′)
+    → Still r mem mem′ → Opened (mem′ .forms) opens (formsAfter r m)
+unfolding steppedOf formsAfter
+opened-by (Goes after) mem mem′ opens m opened stays still = rw (stays .0, stays .1) opened
+opened-by Waits mem mem′ opens m opened stays still = rw still opened
+opened-by Finishes mem mem′ opens m opened stays still = rw still opened
+opened-by (Stops number) mem mem′ opens m opened stays still = rw still opened
 
 -- The kept number after a move is that of what it comes to.
 pub kept-by : (r : Step) (mem : Memory) (m : Registers) → keptAfter r m ≡ keptIn (m .kept) (steppedOf r mem)

@@ -20,14 +20,14 @@ use Rattle.engine.specs.RunningPiece.{pieceIn, restOf}
 use Rattle.values.specs.Packed.{valueIn}
 use Rattle.engine.specs.declared.Registers.{Registers}
 use Rattle.engine.specs.FrameWords.{kindOf, ifKind, skipKind, parameterKind, formKind, heldAttribute, heldNode}
-use Rattle.engine.specs.Decode.{frameLimit, sheetOf, wordsIn}
+use Rattle.engine.specs.Decode.{frameLimit, runSize, sheetOf, wordsIn}
 use Rattle.engine.specs.Represents.{Represents}
 use Rattle.engine.specs.Ready.{memoryOf, FrameReady, PassReady}
 use Rattle.engine.proofs.Kept.{by-key}
-use Rattle.engine.proofs.RunMemory.{frame-at}
+use Rattle.engine.proofs.RunMemory.{run-length, frame-at}
 use Rattle.engine.proofs.ReadyForCode.{rest-reaches, frames-inside, frame-ready, parameter-ready, if-starts, skip-starts}
 use Rattle.engine.proofs.Tracking.{pass-ready}
-use Rattle.engine.proofs.Attributes.{form-counted, due-in, attribute-is, definition-at}
+use Rattle.engine.proofs.Attributes.{form-counted, form-not-kept, figure-not-open, due-in, attribute-is, definition-at}
 use Rattle.attributes.specs.Due.{WriteReady, CloseReady, AttributeReady}
 use Rattle.runs.specs.Moves.{MoveReady}
 
@@ -50,6 +50,10 @@ module _ {sheet index notes question : List ℕ} {store links run : List ℕ} {m
 
   pub write-ready : WriteReady store links (m .kept)
   write-ready = record { linked = ready .linked; short = store-in s store (m .kept) _ (r .holds .stored) .short }
+
+  -- the array of the run has its length
+  pub run-size : length run ≡ runSize
+  run-size = run-length run (ready .opened .size)
 
   pub top-inside : 0 < m .frames → m .frames - 1 < frameLimit
   top-inside framed = omega (arith, frames-inside run r)
@@ -93,7 +97,7 @@ module _ (sheet index notes question store links run : List ℕ) (budget limit :
   of-kind j key = rw is at (sym (given .kind) ∙ key)
 
   pub framed : FrameReady run m
-  framed = frame-ready run rep (given .some)
+  framed = frame-ready run rep (run-size (given .ready)) (given .some)
 
   module _ (e : List ℕ) (rest : e ≡ restOf sheet question (m .forms) (m .at) (m .end)) where
     pub if-ready : k ≡ ifKind → PassReady notes e m
@@ -105,46 +109,57 @@ module _ (sheet index notes question store links run : List ℕ) (budget limit :
     pub reaches : m .at + length e < 2 ^ 64
     reaches = rw rest (omega (arith, rest-reaches run rep, end-short (given .ready)))
 
+  -- a form's frame is innermost, so one is open
+  pub form-open : k ≡ formKind → 1 ≤ m .forms
+  form-open key = omega (arith, form-counted rep (given .gives) (given .some) (by-key decoded) (of-kind formKind key))
+
   pub close-ready : k ≡ formKind → CloseReady store links run m
   close-ready key =
       let opened = form-counted rep (given .gives) (given .some) (by-key decoded) (of-kind formKind key) in
-      let ready = parameter-ready run rep (omega (arith, opened, rep .holds .counted)) in
-      record { writes = write-ready (given .ready); framed = given .some; node = ready .node; word-small = ready .word-small }
+      let ready = parameter-ready run rep (run-size (given .ready)) (omega (arith, opened, rep .holds .counted)) in
+      record {
+        writes = write-ready (given .ready);
+        framed = given .some;
+        node = ready .node;
+        word-small = ready .word-small;
+        not-kept = form-not-kept rep (given .gives) (given .some) (by-key decoded) (of-kind formKind key);
+      }
 
   -- AttrApp, with the node and the attribute that the innermost frame's word holds
-  module _ (left : m .steps < budget) where
-    abbrev word : ℕ
-    word = getD (wordsIn run) (m .frames - 1) 0
+  abbrev word : ℕ
+  word = getD (wordsIn run) (m .frames - 1) 0
 
-    abbrev n : ℕ
-    n = nodeOf (valueIn (heldNode word))
+  abbrev n : ℕ
+  n = nodeOf (valueIn (heldNode word))
 
-    abbrev a : ℕ
-    a = heldAttribute word
+  abbrev a : ℕ
+  a = heldAttribute word
 
-    due-ready : parameterKind ≤ kindOf word → (kindOf word ≡ formKind → ⊥) → (n ≡ 65535 → ⊥) → AttributeReady sheet index store links run m n a
-    unfolding indexed figured ruled isDefined keyOf
-    due-ready late no-form no-null =
-        let r = rep in
-        let gives = given .gives in
-        let some = given .some in
-        let no-null-is = ne-eqb n 65535 no-null in
-        let o-in = due-in r gives some (by-key decoded) late no-form no-null-is in
-        record {
-          pair = record { sheet = decoded; known = r .index-of; node = o-in .node-declared; attribute = o-in .attribute-declared };
-          defined = λ no-figure no-rule. false≢true
-              (rw (definition-at r gives some (by-key decoded) late no-form no-null-is, no-figure, no-rule)
-              at (pair-defined sheet decoded (r .accepts) n a (o-in .node-declared) (o-in .attribute-declared)));
-          kept-word = λ j found. word-more _ _ (r .index-of .described .nodes-bound)
-              (rw (attribute-is r gives some (by-key decoded) late no-form)
-              at (kept-word decoded store (m .kept) _ (r .holds .stored) record { node = n; attribute = a; parameter = m .value } o-in j found));
-          writes = write-ready (given .ready);
-          step = record { frame = framed; counts = omega (arith, given .permitted) };
-        }
+  due-ready : parameterKind ≤ kindOf word → (kindOf word ≡ formKind → ⊥) → (n ≡ 65535 → ⊥) → AttributeReady sheet index store links run m n a
+  unfolding indexed figured ruled isDefined keyOf
+  due-ready late no-form no-null =
+      let r = rep in
+      let gives = given .gives in
+      let some = given .some in
+      let no-null-is = ne-eqb n 65535 no-null in
+      let o-in = due-in r gives some (by-key decoded) late no-form no-null-is in
+      record {
+        pair = record { sheet = decoded; known = r .index-of; node = o-in .node-declared; attribute = o-in .attribute-declared };
+        defined = λ no-figure no-rule. false≢true
+            (rw (definition-at r gives some (by-key decoded) late no-form no-null-is, no-figure, no-rule)
+            at (pair-defined sheet decoded (r .accepts) n a (o-in .node-declared) (o-in .attribute-declared)));
+        kept-word = λ j found. word-more _ _ (r .index-of .described .nodes-bound)
+            (rw (attribute-is r gives some (by-key decoded) late no-form)
+            at (kept-word decoded store (m .kept) _ (r .holds .stored) record { node = n; attribute = a; parameter = m .value } o-in j found));
+        writes = write-ready (given .ready);
+        frame = framed;
+        opened = given .ready .opened;
+        figure-closed = figure-not-open r gives some (by-key decoded) late no-form no-null-is;
+      }
 
-  pub attribute-ready : OtherKind k → (nodeOf (valueIn (heldNode w)) ≡ 65535 → ⊥) → m .steps < budget
+  pub attribute-ready : OtherKind k → (nodeOf (valueIn (heldNode w)) ≡ 65535 → ⊥)
       → AttributeReady sheet index store links run m (nodeOf (valueIn (heldNode w))) (heldAttribute w)
-  attribute-ready other no-null left =
+  attribute-ready other no-null =
       let late : 5 ≤ kindOf w = rw (given .kind) at (late-kind other) in
       let no-form : kindOf w ≡ 6 → ⊥ = rw (given .kind) at (other .1) in
-      rw is (due-ready left (rw is at late) (rw is at no-form) (rw is at no-null))
+      rw is (due-ready (rw is at late) (rw is at no-form) (rw is at no-null))

@@ -9,6 +9,7 @@ use Rattle.stores.specs.Keys.{Linked}
 use Rattle.engine.specs.declared.Registers.{Registers}
 use Rattle.engine.specs.Steps.{Memory, Stepped, goes, stepOf}
 use Rattle.engine.specs.Represents.{machineIn}
+use Rattle.engine.specs.Decode.{formsIn, opensIn}
 use Rattle.engine.specs.Ready.{memoryOf}
 use Rattle.engine.specs.Loop.{Invariant}
 use Rattle.engine.proofs.Loop.{invariant-on, invariant-falls, invariant-waits, invariant-finishes, invariant-stops}
@@ -18,7 +19,8 @@ use Rattle.engine.specs.Tallied.{dueRow, countedIn, rowsAfter, RowsWithin, Tall
 use Rattle.engine.proofs.Tallying.{rows-on, tallied-on, tallied-finishes, tallied-stops}
 use Rattle.engine.specs.declared.Step.{Step}
 use Rattle.engine.specs.declared.Step.the-variants.{Goes, Waits, Finishes, Stops}
-use Rattle.engine.specs.CodeSteps.{steppedOf, keptAfter}
+use Rattle.engine.specs.CodeSteps.{steppedOf, keptAfter, formsAfter}
+use Rattle.opens.specs.Opened.{Opened}
 use Rattle.runs.specs.declared.RunEnd.the-variants as End
 use Rattle.runs.proofs.Counting.{stays-within-limit}
 use Rattle.runs.specs.Moves.{StepsTo, Running, RunsTo, TalliesTo}
@@ -77,7 +79,7 @@ module _ (sheet index notes question : List ℕ) (budget limit : ℕ) where
         record { size = round .rows-within .size; few = λ i. omega (arith, round .rows-within .few i, round .running .invariant .within) }
 
     module _ {store′ links′ : List ℕ} (run′ : List ℕ) {r : Step}
-        (steps : StepsTo sheet index question budget limit mem (memoryOf store′ run′) links′ m r) where
+        (steps : StepsTo sheet index question budget limit mem (memoryOf store′ run′) links′ (opensIn run′) m r) where
       abbrev mem′ : Memory
       mem′ = memoryOf store′ run′
 
@@ -99,7 +101,7 @@ module _ (sheet index notes question : List ℕ) (budget limit : ℕ) where
         pub round-again : (rows′ : List ℕ) → rows′ ≡ rowsAfter r (dueRow mem m) rows
             → length store′ ≡ length store → length links′ ≡ length links → length run′ ≡ length run → length rows′ ≡ length rows
             → Round store₀ links₀ run₀ rows₀ first store′ links′ run′ rows′ m′
-        unfolding keptAfter rowsAfter
+        unfolding keptAfter formsAfter rowsAfter
         round-again rows′ after a b c d =
             let rows-are : rows′ ≡ countedIn (dueRow mem m) rows = rw is at after in
             let next : (lent : List ℕ) (kept : ℕ) (whole : Ended) → Invariant sheet index question budget lent kept whole mem m
@@ -115,6 +117,7 @@ module _ (sheet index notes question : List ℕ) (budget limit : ℕ) where
                     tracks-on (round .running .invariant .represents) (round .running .tracks) budget limit (steps .skip) (steps .packed) (steps .width) goes-to;
                 permitted = round .running .permitted;
                 linked = rw is at (steps .linked);
+                opened = rw is at (steps .opened);
                 short = round .running .short;
               };
               on = λ lent kept whole i. next lent kept whole (round .on lent kept whole i);
@@ -195,3 +198,16 @@ module _ (sheet index notes question : List ℕ) (budget limit : ℕ) where
       pub stopped-linked : {number : ℕ} → r ≡ Stops number → Linked store′ (m .kept) links′
       unfolding keptAfter
       stopped-linked is = rw is at (steps .linked)
+
+      -- and that of the open forms
+      pub paused-opened : r ≡ Waits → Opened (formsIn run′) (opensIn run′) (m .forms)
+      unfolding formsAfter
+      paused-opened is = rw is at (steps .opened)
+
+      pub finished-opened : r ≡ Finishes → Opened (formsIn run′) (opensIn run′) (m .forms)
+      unfolding formsAfter
+      finished-opened is = rw is at (steps .opened)
+
+      pub stopped-opened : {number : ℕ} → r ≡ Stops number → Opened (formsIn run′) (opensIn run′) (m .forms)
+      unfolding formsAfter
+      stopped-opened is = rw is at (steps .opened)

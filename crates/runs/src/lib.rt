@@ -23,12 +23,14 @@ ghost use Rattle.saiga.specs.Caching.{Counted, Ended};
 ghost use Rattle.values.specs.Packed.{valueIn};
 ghost use Rattle.stores.specs.Keys.{Linked};
 ghost use Rattle.engine.specs.Steps.{Memory, takeIf, takeRight, within};
+ghost use Rattle.engine.specs.Decode.{formsIn, opensIn};
 ghost use Rattle.engine.specs.Ready.{memoryOf, FrameReady, PassReady, Passes};
 ghost use Rattle.engine.specs.Loop.{Invariant};
 ghost use Rattle.engine.specs.CodeSteps.{steppedOf, Still};
 ghost use Rattle.engine.specs.FrameWords.{heldFunction};
 ghost use Rattle.engine.specs.Tallied.{wordRow, dueRow, rowsAfter, RowsWithin, Tallied};
-ghost use Rattle.runs.specs.Moves.{MoveReady, GivesTo, StepsTo, Running, keptBy, RunsTo, TalliesTo};
+ghost use Rattle.opens.specs.Opened.{Opened};
+ghost use Rattle.runs.specs.Moves.{MoveReady, GivesTo, StepsTo, Running, keptBy, formsBy, RunsTo, TalliesTo};
 
 // How a run leaves off: with a counted step due at the limit, with its value, or with a stop's number; and the registers then.
 pub enum RunEnd {
@@ -45,6 +47,7 @@ fn give_if(notes: &[u8], e: &[u8], memory: &mut [u64], limits: Limits, m: Regist
         → steppedOf r (memoryOf store (now (memory .exit)))
         ≡ within (limits .budget) (limits .pause) m (takeIf skip (memoryOf store (now (memory .entry))) m (truth (m .value)))) ⌝ }
     ensures { λ r. ⌜ ((store : List ℕ) → Still r (memoryOf store (now (memory .entry))) (memoryOf store (now (memory .exit)))) ⌝ }
+    ensures { λ _. ⌜ opensIn (now (memory .exit)) ≡ opensIn (now (memory .entry)) ⌝ }
 {
     if limits.budget <= m.steps {
         return Step::Stops(15);
@@ -106,8 +109,8 @@ fn give<'a>(
     requires { ⌜ MoveReady (now sheet) (now index) (now notes) (now question) (now store) (now links) (now memory) m ⌝ }
     requires { ⌜ (m .returning ≡ true) × (0 < m .frames) × (limits .budget ≤ budgetLimit) × RowsWithin (limits .budget) (now tally) ⌝ }
     ensures { λ r. ⌜ GivesTo (now (sheet .entry)) (now (index .entry)) (now (question .entry)) (limits .budget) (limits .pause)
-        (memoryOf (now (store .entry)) (now (memory .entry))) (memoryOf (now (store .exit)) (now (memory .exit))) (now (links .exit)) m
-        (getD (now (memory .entry)) (m .frames - 1) 0) r ⌝ }
+        (memoryOf (now (store .entry)) (now (memory .entry))) (memoryOf (now (store .exit)) (now (memory .exit))) (now (links .exit))
+        (opensIn (now (memory .exit))) m (getD (now (memory .entry)) (m .frames - 1) 0) r ⌝ }
     ensures { λ r. ⌜ now (tally .exit) ≡ rowsAfter r (wordRow (getD (now (memory .entry)) (m .frames - 1) 0)) (now (tally .entry)) ⌝ }
 {
     let top = m.frames - 1;
@@ -156,7 +159,8 @@ pub fn step<'a>(
     requires { ⌜ MoveReady (now sheet) (now index) (now notes) (now question) (now store) (now links) (now memory) m × (limits .budget ≤ budgetLimit) ⌝ }
     requires { ⌜ RowsWithin (limits .budget) (now tally) ⌝ }
     ensures { λ r. ⌜ StepsTo (now (sheet .entry)) (now (index .entry)) (now (question .entry)) (limits .budget) (limits .pause)
-        (memoryOf (now (store .entry)) (now (memory .entry))) (memoryOf (now (store .exit)) (now (memory .exit))) (now (links .exit)) m r ⌝ }
+        (memoryOf (now (store .entry)) (now (memory .entry))) (memoryOf (now (store .exit)) (now (memory .exit))) (now (links .exit))
+        (opensIn (now (memory .exit))) m r ⌝ }
     ensures { λ r. ⌜ now (tally .exit) ≡ rowsAfter r (dueRow (memoryOf (now (store .entry)) (now (memory .entry))) m) (now (tally .entry)) ⌝ }
 {
     if !m.returning {
@@ -204,6 +208,7 @@ pub fn run<'a>(
         → Tallied (now (sheet .entry)) (now (question .entry)) (limits .budget) all (now (tally .entry)) (memoryOf (now (store .entry)) (now (memory .entry))) first
         → TalliesTo (now (sheet .entry)) (now (question .entry)) (limits .budget) all (memoryOf (now (store .exit)) (now (memory .exit))) (now (tally .exit)) r) ⌝ }
     ensures { λ r. ⌜ Linked (now (store .exit)) (keptBy r) (now (links .exit)) ⌝ }
+    ensures { λ r. ⌜ Opened (formsIn (now (memory .exit))) (opensIn (now (memory .exit))) (formsBy r) ⌝ }
 {
     let mut m = first;
     loop {

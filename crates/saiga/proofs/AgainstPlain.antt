@@ -14,10 +14,11 @@ use lib.Dec.{eqb, ltb}
 use Rattle.saiga.specs.Values.{Value, null, Applied, gives, overflows, apply}
 use Rattle.saiga.specs.Expressions.{Expr}
 use Rattle.saiga.specs.Terms.{Occurrence, val, cond, app, attr, form}
-use Rattle.saiga.specs.Plain.{Plain, on-null, ends-without, plainStep, plainAt}
-use Rattle.saiga.specs.Caching.{Entry, Running, Counted, Due, finished, counts, writes, halts, Reason, as-plain, spent, depth, duePart, count, appApp, attrApp, due, State, Ending, with-value, by, Ended, dueAt}
+use Rattle.saiga.specs.Plain.{Plain, on-null, ends-without, plainStep, plainAt, RunsForEver}
+use Rattle.saiga.specs.Caching.{Entry, Running, Counted, Due, finished, counts, writes, halts, Reason, as-plain, circle, spent, depth, duePart, count, appApp, isOpen, circular, attrApp, due, State, Ending, with-value, by, Ended, dueAt}
 use Rattle.saiga.specs.Runs.{Runs, ends-value, ends-by, goes-counted, goes-writing, Traces, none-value, none-by, one-counted, past-writing}
-use Rattle.saiga.proofs.Erasure.{erase, Right, Faithful, Seen, comes-on, step-first}
+use Rattle.saiga.proofs.Erasure.{erase, Right, Faithful, Seen}
+use Rattle.saiga.proofs.Places.{comes-on, step-first, for-ever-before}
 use Rattle.saiga.proofs.RunEnds.{spent-used, after}
 use Rattle.saiga.proofs.Keeping.{seen-at, right-write}
 
@@ -29,15 +30,18 @@ module _ (context : ℕ → ℕ → Expr) where
   Follows budget q steps (with-value v) = (m : ℕ) × (plainAt context m q ≡ some (val v)) × (steps ≤ m)
   Follows budget q steps (by (as-plain why)) =
       (m : ℕ) × (t : Plain) × (plainAt context m q ≡ some t) × (plainStep context t ≡ ends-without why) × (steps ≤ m)
+  Follows budget q steps (by circle) = RunsForEver context q
   Follows budget q steps (by spent) =
       (m : ℕ) × (t : Plain) × (plainAt context (suc m) q ≡ some t) × (budget ≤ steps) × (steps ≤ m)
   Follows budget q steps (by depth) = Unit {0}
 
   module _ (capacity budget : ℕ) where
-    follows-halt : (st : State) (r : Reason) → dueAt context capacity budget st ≡ halts r → Seen context (st .term) (halts r)
+    follows-halt : (st : State) (r : Reason) → dueAt context capacity budget st ≡ halts r → Seen context [] (st .term) (halts r)
         → (q : Plain) (n : ℕ) → plainAt context n q ≡ some (erase (st .term)) → st .steps ≤ n → Follows budget q (st .steps) (by r)
-    unfolding plainAt
+    unfolding plainAt isOpen
     follows-halt st (as-plain why) e s q n h l = (n, erase (st .term), h, s, l)
+    follows-halt st circle e (inl on) q n h l = for-ever-before context n q (erase (st .term)) h on
+    follows-halt st circle e (inr (o, among, d)) q n h l = absurd (false≢true among)
     follows-halt st spent e s q n h l = (n, s .0, one-more, spent-used context capacity budget st e, l)
       where
         one-more : plainAt context (suc n) q ≡ some (s .0)
@@ -74,11 +78,13 @@ agree-part inside after after′ (halts r) e (inr s) g = inr (ap (duePart inside
 module _ (context : ℕ → ℕ → Expr) (s : List Entry) where
   agree-attr : (os : List Occurrence) (o : Occurrence) → Agree (attrApp context s false os o) (attrApp context s true os o)
   unfolding attrApp
-  agree-attr os o = go (eqb (o .node) null) _
+  agree-attr os o = go (eqb (o .node) null) (circular s os o) _
     where
-      go : (z : Bool) (d : Due) → Agree (Bool.cond z (halts (as-plain on-null)) (halts spent)) (Bool.cond z (halts (as-plain on-null)) d)
-      go true d = inr refl
-      go false d = inl refl
+      go : (z c : Bool) (d : Due)
+          → Agree (Bool.cond z (halts (as-plain on-null)) (Bool.cond c (halts circle) (halts spent))) (Bool.cond z (halts (as-plain on-null)) (Bool.cond c (halts circle) d))
+      go true c d = inr refl
+      go false true d = inr refl
+      go false false d = inl refl
 
   agree-app : (a : Applied) → Agree (appApp false a) (appApp true a)
   unfolding appApp count

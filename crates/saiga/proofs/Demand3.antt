@@ -20,7 +20,7 @@ use Rattle.saiga.specs.Demand3.{PlainEnding, PlainEnds, Brings, HasEndin
 use Rattle.saiga.proofs.Keeping.{right-run}
 use Rattle.saiga.proofs.Larger.{Nested, alike, larger, Brings as RunBrings}
 use Rattle.saiga.proofs.Erasure.{Right, faithful-put}
-use Rattle.saiga.proofs.Endings.{no-ending, same-ending, sound-ending, never-both, complete-ending}
+use Rattle.saiga.proofs.Endings.{no-ending, same-ending, sound-ending, never-both, complete-ending, circle-ending, for-ever-ending}
 use Rattle.saiga.proofs.Calls.{question-runs, question-follows, call-answered, call-over, call-malformed, budgets-agree, Passes, question-leaves, call-cases}
 
 -- ---- Lists
@@ -138,18 +138,24 @@ module _ (sheet : List ℕ) (s : Sheet) (ok : checkSheet sheet ≡ accepted s) w
 
   -- ---- The claim
 
-  -- an answer with an ending of plain Saiga's was given under a permitted budget
-  ending-permitted : (m : Lent) (entries : List Entry) (q : List ℕ) (budget : ℕ) → Passes sheet s ok m entries
-      → HasEnding (ask sheet m (asking q budget) .answer) → budget ≤ budgetLimit
-  unfolding HasEnding refusal
-  ending-permitted m entries q budget pass h = go (leb budget budgetLimit) refl
+  -- An answer other than 11 was given under a permitted budget: one with an ending of plain Saiga's, and a circle.
+  permitted-unless : (m : Lent) (entries : List Entry) (q : List ℕ) (budget : ℕ) → Passes sheet s ok m entries
+      → (ask sheet m (asking q budget) .answer .number ≡ 11 → ⊥) → budget ≤ budgetLimit
+  unfolding refusal
+  permitted-unless m entries q budget pass other = go (leb budget budgetLimit) refl
     where
-      refute : (ask sheet m (asking q budget) .answer .number ≡ 11) → HasEnding (ask sheet m (asking q budget) .answer) → ⊥
-      refute e h = no-ending (λ is. omega (arith, e, is)) (λ is. omega (arith, e, is)) (λ is. omega (arith, e, is)) h
-
       go : (b : Bool) → leb budget budgetLimit ≡ b → budget ≤ budgetLimit
       go true p = leb-true budget budgetLimit p
-      go false p = absurd (refute (ap (λ o. o .answer .number) (call-over sheet s ok m entries q budget pass (leb-false budget budgetLimit p))) h)
+      go false p = absurd (other (ap (λ o. o .answer .number) (call-over sheet s ok m entries q budget pass (leb-false budget budgetLimit p))))
+
+  ending-permitted : (m : Lent) (entries : List Entry) (q : List ℕ) (budget : ℕ) → Passes sheet s ok m entries
+      → HasEnding (ask sheet m (asking q budget) .answer) → budget ≤ budgetLimit
+  unfolding HasEnding
+  ending-permitted m entries q budget pass h = permitted-unless m entries q budget pass (λ is. no-ending 11 refl (rw is at h))
+
+  circle-permitted : (m : Lent) (entries : List Entry) (q : List ℕ) (budget : ℕ) → Passes sheet s ok m entries
+      → ask sheet m (asking q budget) .answer .number ≡ 20 → budget ≤ budgetLimit
+  circle-permitted m entries q budget pass h = permitted-unless m entries q budget pass (λ is. omega (arith, is, h))
 
   ending-at : (size : ℕ) (first : Lent) → First size first → (before : List Call) (q : List ℕ) (e : Expr) → checkQuestion s q ≡ accepted e → (budget : ℕ)
       → let r = outcome-at sheet first before q budget .answer in
@@ -170,6 +176,14 @@ module _ (sheet : List ℕ) (s : Sheet) (ok : checkSheet sheet ≡ accepted s) w
     never = λ size first f before q e form for-ever budget h.
         let (ending, n, ends, same, fewer) = ending-at size first f before q e form budget h in
         never-both s e budget ending n ends for-ever;
+    circles = λ size first f before q e form budget h.
+        let (entries, r) = reached size first ([], reached-first size first f) before in
+        let is = answer-is size entries _ r q budget e (circle-permitted _ entries q budget (r .passes) h) form in
+        circle-ending s e budget _ _ _ (question-follows s size budget entries e (r .right)) (rw is at h);
+    for-ever = λ size first f before q e form on budget permitted.
+        let (entries, r) = reached size first ([], reached-first size first f) before in
+        rw (answer-is size entries _ r q budget e permitted form)
+        (for-ever-ending s e budget _ _ _ (question-follows s size budget entries e (r .right)) on);
     larger-stores = λ size size′ more first first′ f f′ before q e form budget h.
         let p = paired size size′ more first first′ record {
           small = [];

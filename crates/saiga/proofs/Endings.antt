@@ -1,17 +1,19 @@
 -- The endings that answers bring against those of plain Saiga.
+use mathlib.Core.Bool.{false, _||_, false≢true}
 use mathlib.Core.List.{List}
 use mathlib.Core.Logic.{_⊎_, inl, inr}
 use mathlib.Core.Option.{some}
 use mathlib.Core.Path.{_≡_, refl, sym, _∙_, ap}
 use Prim.Native.Nat.{ℕ, suc, _≤_}
 use native.Mathlib.Omega.{arith}
+use lib.Dec.{eqb}
 use lib.ListN.{length}
 use Rattle.saiga.specs.Values.{Value}
 use Rattle.saiga.specs.Expressions.{Expr}
 use Rattle.saiga.specs.Sheet.{Sheet, context}
 use Rattle.saiga.specs.Terms.{val}
 use Rattle.saiga.specs.Plain.{Plain, NoValue, on-null, by-overflow, is-value, ends-without, plainStep, plainAt, EndsWithValue, EndsWithout, RunsForEver}
-use Rattle.saiga.specs.Caching.{Entry, as-plain, spent, depth, with-value, by, Ending, Ended}
+use Rattle.saiga.specs.Caching.{Entry, as-plain, circle, spent, depth, with-value, by, Ending, Ended}
 use Rattle.saiga.specs.Ask.{Answer, asked, reasonNumber, endedAnswer}
 use Rattle.saiga.specs.Demand3.{PlainEnding, a-value, no-value, PlainEnds, Brings, HasEnding}
 use Rattle.saiga.proofs.Larger.{BringsIn}
@@ -27,10 +29,10 @@ abbrev answer-of : Ending → ℕ → List Entry → Answer
 answer-of ending steps entries = endedAnswer (ended-so ending steps entries)
 
 -- a number of none of plain Saiga's endings
-pub no-ending : {n : ℕ} → (n ≡ 0 → ⊥) → (n ≡ 14 → ⊥) → (n ≡ 17 → ⊥) → (n ≡ 0) ⊎ (n ≡ 14) ⊎ (n ≡ 17) → ⊥
-no-ending not-0 not-14 not-17 (inl h) = not-0 h
-no-ending not-0 not-14 not-17 (inr (inl h)) = not-14 h
-no-ending not-0 not-14 not-17 (inr (inr h)) = not-17 h
+pub no-ending : (n : ℕ) → (eqb n 0 || eqb n 14 || eqb n 17) ≡ false → (n ≡ 0) ⊎ (n ≡ 14) ⊎ (n ≡ 17) → ⊥
+no-ending n other (inl h) = false≢true (sym (rw h at other))
+no-ending n other (inr (inl h)) = false≢true (sym (rw h at other))
+no-ending n other (inr (inr h)) = false≢true (sym (rw h at other))
 
 -- The larger store's run brings the same ending.
 pub same-ending : (ending : Ending) (steps : ℕ) (entries : List Entry) (large : Ended) → BringsIn ending steps large → HasEnding (answer-of ending steps entries)
@@ -40,8 +42,9 @@ pub same-ending : (ending : Ending) (steps : ℕ) (entries : List Entry) (large 
 unfolding endedAnswer reasonNumber HasEnding
 same-ending (with-value v) steps k large b h = rw (b .0) (refl, refl, refl, b .1)
 same-ending (by (as-plain why)) steps k large b h = rw (b .0) (refl, refl, refl, b .1)
-same-ending (by spent) steps k large b h = absurd (no-ending (omega arith) (omega arith) (omega arith) h)
-same-ending (by depth) steps k large b h = absurd (no-ending (omega arith) (omega arith) (omega arith) h)
+same-ending (by circle) steps k large b h = absurd (no-ending 20 refl h)
+same-ending (by spent) steps k large b h = absurd (no-ending 15 refl h)
+same-ending (by depth) steps k large b h = absurd (no-ending 16 refl h)
 
 -- Stop 15 is given for the budget alone.
 pub kept-field : (end : Ended) → endedAnswer end .kept ≡ length (end .entries)
@@ -70,8 +73,9 @@ module _ (s : Sheet) (e : Expr) (budget : ℕ) where
   unfolding endedAnswer reasonNumber HasEnding PlainEnds Brings EndsWithValue EndsWithout
   sound-ending (with-value v) steps l f h = (a-value v, f .0, f .1, (refl, refl, refl), f .2)
   sound-ending (by (as-plain why)) steps l f h = (no-value why, f .0, (f .1, f .2, f .3), brings-why steps l why, f .4)
-  sound-ending (by spent) steps l f h = absurd (no-ending (omega arith) (omega arith) (omega arith) h)
-  sound-ending (by depth) steps l f h = absurd (no-ending (omega arith) (omega arith) (omega arith) h)
+  sound-ending (by circle) steps l f h = absurd (no-ending 20 refl h)
+  sound-ending (by spent) steps l f h = absurd (no-ending 15 refl h)
+  sound-ending (by depth) steps l f h = absurd (no-ending 16 refl h)
 
   -- where plain Saiga ends, no step is due
   ended : (p : PlainEnding) (n : ℕ) → PlainEnds s e p n → (t : Plain) × (plainAt (context s) n (asked e) ≡ some t) × Final (context s) t
@@ -124,8 +128,30 @@ module _ (s : Sheet) (e : Expr) (budget : ℕ) where
   complete-ending (by (as-plain why)) steps l f p n h m =
       let o = ends-once p (no-value why) n (f .0) h (f .1, f .2, f .3) in
       inl (rw (o .1) (brings-why steps l why), omega (arith, o .0, f .4))
+  complete-ending (by circle) steps l f p n h m = absurd (never-both p n h f)
   complete-ending (by spent) steps l f p n h m =
       let a = ended p n h in
       let n-more : suc (f .0) ≤ n = last (context s) n (suc (f .0)) (asked e) (a .0) (f .1) (a .1) (a .2) (f .2) in
       absurd (omega (arith, f .3, f .4))
   complete-ending (by depth) steps l f p n h m = inr refl
+
+  -- Stop 20 is given only where plain Saiga runs for ever; and where it does so, no answer but 20, 15 and 16.
+  pub circle-ending : (ending : Ending) (steps : ℕ) (entries : List Entry) → Follows (context s) budget (asked e) steps ending
+      → answer-of ending steps entries .number ≡ 20 → RunsForEver (context s) (asked e)
+  unfolding endedAnswer reasonNumber
+  circle-ending (with-value v) steps l f h = absurd (omega arith)
+  circle-ending (by (as-plain on-null)) steps l f h = absurd (omega arith)
+  circle-ending (by (as-plain by-overflow)) steps l f h = absurd (omega arith)
+  circle-ending (by circle) steps l f h = f
+  circle-ending (by spent) steps l f h = absurd (omega arith)
+  circle-ending (by depth) steps l f h = absurd (omega arith)
+
+  pub for-ever-ending : (ending : Ending) (steps : ℕ) (entries : List Entry) → Follows (context s) budget (asked e) steps ending
+      → RunsForEver (context s) (asked e)
+      → let number = answer-of ending steps entries .number in (number ≡ 20) ⊎ (number ≡ 15) ⊎ (number ≡ 16)
+  unfolding endedAnswer reasonNumber PlainEnds EndsWithValue EndsWithout
+  for-ever-ending (with-value v) steps l f on = absurd (never-both (a-value v) (f .0) (f .1) on)
+  for-ever-ending (by (as-plain why)) steps l f on = absurd (never-both (no-value why) (f .0) (f .1, f .2, f .3) on)
+  for-ever-ending (by circle) steps l f on = inl refl
+  for-ever-ending (by spent) steps l f on = inr (inl refl)
+  for-ever-ending (by depth) steps l f on = inr (inr refl)

@@ -81,6 +81,15 @@ between-mag (negsuc n) e = go (ltb 2147483647 n) refl e
     go true h e = absurd (false≢true (sym e))
     go false h e = omega (arith, ltb-false 2147483647 n h)
 
+-- What is told to fit is such a number.
+pub exact-mag : (w z : ℤ) → exact w ≡ fits z → mag z < signBit
+unfolding exact
+exact-mag w z = go (ltZ w lowest || ltZ highest w) refl
+  where
+    go : (b : Bool) → (ltZ w lowest || ltZ highest w) ≡ b → cond b beyond (fits w) ≡ fits z → mag z < signBit
+    go true h e = absurd (let z : _≡_ {A = ℕ} 0 1 = cc in omega arith)
+    go false h e = let same : w ≡ z = cc in rw same at (between-mag w h)
+
 between-ends : (z : ℤ) → (ltZ z lowest || ltZ highest z) ≡ false → IsInt z
 between-ends z e = mag-int z (between-mag z e)
 

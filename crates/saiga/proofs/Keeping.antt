@@ -4,7 +4,7 @@ use mathlib.Core.Bool as Bool
 use mathlib.Core.Logic.{_⊎_, inl, inr}
 use mathlib.Core.Option.{none, some, Option·none-ne-some}
 use mathlib.Core.List.{List, [], _∷_, _++_}
-use mathlib.Core.Path.{_≡_, refl}
+use mathlib.Core.Path.{_≡_, refl, sym}
 use Prim.Native.Nat.{ℕ, _≤_}
 use native.Mathlib.Omega.{arith}
 use lib.Dec.{leb}
@@ -74,6 +74,26 @@ kept-write C s n o v k = go (isKept (kept s (n .occurrence)) || leb C (length s)
     go true = k
     go false = kept-before s (n ∷ []) o v k
 
+-- CacheWrite keeps nothing of another occurrence.
+kept-other : (l : List Entry) (n : Entry) (o : Occurrence) → sameOccurrence (n .occurrence) o ≡ false → kept l o ≡ none → kept (l ++ n ∷ []) o ≡ none
+unfolding kept
+kept-other [] n o other k = rw other
+kept-other (m ∷ l) n o other k = go (sameOccurrence (m .occurrence) o) k (kept-other l n o other)
+  where
+    go : (b : Bool) → Bool.cond b (some (m .value)) (kept l o) ≡ none → (kept l o ≡ none → kept (l ++ n ∷ []) o ≡ none)
+        → Bool.cond b (some (m .value)) (kept (l ++ n ∷ []) o) ≡ none
+    go true k rest = absurd (Option·none-ne-some (m .value) (sym k))
+    go false k rest = rest k
+
+pub write-other : (C : ℕ) (s : List Entry) (n : Entry) (o : Occurrence) → sameOccurrence (n .occurrence) o ≡ false → kept s o ≡ none
+    → kept (write C s n) o ≡ none
+unfolding write
+write-other C s n o other k = go (isKept (kept s (n .occurrence)) || leb C (length s))
+  where
+    go : (b : Bool) → kept (Bool.cond b s (s ++ n ∷ [])) o ≡ none
+    go true = k
+    go false = kept-other s n o other k
+
 pub kept-run : {context : ℕ → ℕ → Expr} {C budget : ℕ} {st : State} {end : Ended} → Runs context C budget st end
     → (o : Occurrence) (v : Value) → kept (st .entries) o ≡ some v → kept (end .entries) o ≡ some v
 kept-run (ends-value d) o v k = k
@@ -96,7 +116,7 @@ module _ (context : ℕ → ℕ → Expr) where
       go false = record { right = λ o v k. added o v (kept-added s n o v k) }
 
   -- what plain Saiga sees of a state's due step
-  pub seen-at : (C budget : ℕ) (st : State) → Right context (st .entries) → Faithful context (st .term) → Seen context (st .term) (dueAt context C budget st)
+  pub seen-at : (C budget : ℕ) (st : State) → Right context (st .entries) → Faithful context (st .term) → Seen context [] (st .term) (dueAt context C budget st)
   unfolding dueAt
   seen-at C budget st r f = seen context (st .entries) _ [] (st .term) r f
 

@@ -15,12 +15,12 @@ use Rattle.saiga.specs.Values.{Value, null, nodeOf, Applied, gives, over
 use Rattle.saiga.specs.Expressions.{Expr}
 use Rattle.saiga.specs.Terms.{Occurrence, val, cond, app, attr, form, put}
 use Rattle.saiga.specs.Plain.{plainStep, is-value, on-null, ends-without}
-use Rattle.saiga.specs.Caching.{Entry, Running, kept, isKept, write, Counted, AppApp, AttrApp, as-plain, spent, depth, Due, finished, counts, writes, halts, duePart, count, appApp, keptOr, tooDeep, attrApp, due, State, Ending, with-value, by, Ended, dueAt}
+use Rattle.saiga.specs.Caching.{Entry, Running, kept, isKept, write, Counted, AppApp, AttrApp, as-plain, circle, spent, depth, Due, finished, counts, writes, halts, duePart, count, appApp, keptOr, isOpen, circular, tooDeep, attrApp, due, State, Ending, with-value, by, Ended, dueAt}
 use Rattle.saiga.specs.Runs.{Runs, ends-value, ends-by, goes-counted, goes-writing}
 use Rattle.saiga.proofs.Erasure.{erase, Yields, Right, Faithful, Seen, seen}
 use Rattle.saiga.proofs.PlainFacts.{final-value, final-without, one-end, one-value}
 use Rattle.saiga.proofs.RunEnds.{after}
-use Rattle.saiga.proofs.Depth.{not-deep-kept, not-deep-few}
+use Rattle.saiga.proofs.Depth.{not-circular-kept, not-circular-closed, not-deep-kept, not-deep-few}
 use Rattle.saiga.proofs.Keeping.{write-kept, write-full, write-alike, kept-write, kept-run, right-write, seen-at}
 
 -- ---- The relations
@@ -35,21 +35,29 @@ pub data Nested (C : ℕ) (s S : List Entry) : Type 0 where
   alike : s ≡ S → Nested C s S
   frozen : C ≤ length s → Contained s S → Nested C s S
 
--- Where the smaller store has AttrApp go on inside so many forms, so has the larger inside as many or fewer: what is kept in the one is kept in the
--- other.
-not-deeper : (s S : List Entry) → Contained s S → (os os′ : List Occurrence) → length os′ ≤ length os → (o : Occurrence)
-    → tooDeep s os o ≡ false → tooDeep S os′ o ≡ false
-unfolding tooDeep isKept
-not-deeper s S within os os′ fewer o = go (kept s o) refl
-  where
-    go : (k : Option Value) → kept s o ≡ k → (Bool.not (isKept k) && leb depthLimit (length os)) ≡ false → tooDeep S os′ o ≡ false
-    go none k shallow = not-deep-few S os′ o (omega (arith, leb-false depthLimit (length os) shallow))
-    go (some v) k shallow = not-deep-kept S os′ o (within o v k)
+-- Where the smaller store has AttrApp go on, so has the larger inside the same forms: what is kept in the one is kept in the other.
+module _ (s S : List Entry) (within : Contained s S) (os : List Occurrence) (o : Occurrence) where
+  not-circular : circular s os o ≡ false → circular S os o ≡ false
+  unfolding circular isKept
+  not-circular = go (kept s o) refl
+    where
+      go : (k : Option Value) → kept s o ≡ k → (Bool.not (isKept k) && isOpen os o) ≡ false → circular S os o ≡ false
+      go none k closed = not-circular-closed S os o closed
+      go (some v) k closed = not-circular-kept S os o (within o v k)
+
+  not-deeper : tooDeep s os o ≡ false → tooDeep S os o ≡ false
+  unfolding tooDeep isKept
+  not-deeper = go (kept s o) refl
+    where
+      go : (k : Option Value) → kept s o ≡ k → (Bool.not (isKept k) && leb depthLimit (length os)) ≡ false → tooDeep S os o ≡ false
+      go none k shallow = not-deep-few S os o (omega (arith, leb-false depthLimit (length os) shallow))
+      go (some v) k shallow = not-deep-kept S os o (within o v k)
 
 -- The second ending is the first's, with no more steps, where the first is one that plain Saiga has.
 abbrev pub BringsIn : Ending → ℕ → Ended → Type 0
 BringsIn (with-value v) c large = (large .ending ≡ with-value v) × (large .steps ≤ c)
 BringsIn (by (as-plain why)) c large = (large .ending ≡ by (as-plain why)) × (large .steps ≤ c)
+BringsIn (by circle) c large = Unit {0}
 BringsIn (by spent) c large = Unit {0}
 BringsIn (by depth) c large = Unit {0}
 
@@ -63,6 +71,7 @@ one-ending C {end} same = rw same (alike refl, go (end .ending) refl)
     go : (e : Ending) → end .ending ≡ e → BringsIn e (end .steps) end
     go (with-value v) is = (is, omega arith)
     go (by (as-plain why)) is = (is, omega arith)
+    go (by circle) is = tt
     go (by spent) is = tt
     go (by depth) is = tt
 
@@ -107,6 +116,7 @@ module _ (context : ℕ → ℕ → Expr) (S : List Entry) where
   Follows B os t′ (counts r t) = Ahead S t t′ ⊎ ((t″ : Running) × (due context S B os t′ ≡ counts r t″) × Lands os t t″)
   Follows B os t′ (writes n t) = Ahead S t t′ ⊎ ((t″ : Running) × (due context S B os t′ ≡ writes n t″) × Ahead S t t″)
   Follows B os t′ (halts (as-plain why)) = due context S B os t′ ≡ halts (as-plain why)
+  Follows B os t′ (halts circle) = Unit {0}
   Follows B os t′ (halts spent) = Unit {0}
   Follows B os t′ (halts depth) = Unit {0}
 
@@ -131,6 +141,7 @@ module _ (context : ℕ → ℕ → Expr) (S : List Entry) where
     follows-part B t′ after-small (writes n t) (inr h) k =
         inr (inside′ (h .0), at-part B t′ ∙ ap (duePart inside′ (after B)) (h .1), place t (h .0) (h .2))
     follows-part B t′ after-small (halts (as-plain why)) h k = at-part B t′ ∙ ap (duePart inside′ (after B)) h
+    follows-part B t′ after-small (halts circle) h k = tt
     follows-part B t′ after-small (halts spent) h k = tt
     follows-part B t′ after-small (halts depth) h k = tt
 
@@ -151,16 +162,16 @@ module _ (context : ℕ → ℕ → Expr) (S : List Entry) where
 module _ (context : ℕ → ℕ → Expr) (s S : List Entry) (within : Contained s S) (r : Right context s) (R : Right context S)
     (b B : Bool) (budgets : b ≡ true → B ≡ true) where
   -- Inside a form that the larger run has done: plain Saiga makes of σ what is kept, so the smaller comes to that and to no other end.
-  follows-done : (os os′ : List Occurrence) (o : Occurrence) (e : Running) (v : Value) → kept S o ≡ some v → Faithful context (form o e)
-      → Follows context S B os′ (val v) (due context s b os (form o e))
+  follows-done : (os : List Occurrence) (o : Occurrence) (e : Running) (v : Value) → kept S o ≡ some v → Faithful context (form o e)
+      → Follows context S B os (val v) (due context s b os (form o e))
   unfolding due duePart plainStep
-  follows-done os os′ o e v k f = go (due context s b (o ∷ os) e) (seen context s b (o ∷ os) e r (f .1))
+  follows-done os o e v k f = go (due context s b (o ∷ os) e) (seen context s b (o ∷ os) e r (f .1))
     where
       y : Yields context o v
       y = R .right o v k
 
-      go : (d : Due) → Seen context e d
-          → Follows context S B os′ (val v) (duePart (λ e. form o e) (λ v. writes (record { occurrence = o; value = v }) (val v)) d)
+      go : (d : Due) → Seen context (o ∷ os) e d
+          → Follows context S B os (val v) (duePart (λ e. form o e) (λ v. writes (record { occurrence = o; value = v }) (val v)) d)
       go (finished w) h =
           let same = one-value context (y .count) (f .0 .count) _ v w (y .reached) (rw h at (f .0 .reached)) in
           inl (rw (same .0) same-val)
@@ -171,14 +182,15 @@ module _ (context : ℕ → ℕ → Expr) (s S : List Entry) (within : Contained
           (final-value context v) (final-without context why (erase e) h) in
           let step : is-value v ≡ ends-without why = ap (plainStep context) (same .0) ∙ h in
           cc
+      go (halts circle) h = tt
       go (halts spent) h = tt
       go (halts depth) h = tt
 
   -- AttrApp, which may find a value in the larger store alone.
-  follows-attr : (os os′ : List Occurrence) → length os′ ≤ length os → (n w : Value) (a : ℕ)
-      → Follows context S B os′ (attr (val n) a (val w)) (attrApp context s b os (record { node = nodeOf n; attribute = a; parameter = w }))
+  follows-attr : (os : List Occurrence) (n w : Value) (a : ℕ)
+      → Follows context S B os (attr (val n) a (val w)) (attrApp context s b os (record { node = nodeOf n; attribute = a; parameter = w }))
   unfolding attrApp due duePart keptOr
-  follows-attr os os′ fewer n w a = by-null (eqb (nodeOf n) null) refl
+  follows-attr os n w a = by-null (eqb (nodeOf n) null) refl
     where
       o : Occurrence
       o = record { node = nodeOf n; attribute = a; parameter = w }
@@ -190,61 +202,67 @@ module _ (context : ℕ → ℕ → Expr) (s S : List Entry) (within : Contained
       opened : List Entry → Running
       opened l = form o (keptOr (kept l o) given)
 
-      found : (k : Option Value) → kept S o ≡ k → Lands context S os′ (form o given) (opened S)
+      found : (k : Option Value) → kept S o ≡ k → Lands context S os (form o given) (opened S)
       found none e = rw e (at-once (ahead-refl S (form o given)))
       found (some v) e = rw e (by-write (record { occurrence = o; value = v }) e (λ B. refl) (done e))
 
-      lands : (k : Option Value) → kept s o ≡ k → Lands context S os′ (opened s) (opened S)
+      lands : (k : Option Value) → kept s o ≡ k → Lands context S os (opened s) (opened S)
       lands none e = rw e (found (kept S o) refl)
       lands (some v) e = rw (e, within o v e) (at-once (ahead-refl S (form o (val v))))
 
       -- the tests of attrApp, one after the other
-      by-depth : (d : Bool) → tooDeep s os o ≡ d → eqb (nodeOf n) null ≡ false → B ≡ true
-          → Follows context S B os′ (attr (val n) a (val w)) (Bool.cond d (halts depth) (counts (AttrApp a) (opened s)))
-      by-depth true e no-null budget = tt
-      by-depth false e no-null budget =
-          inr (opened S, rw (no-null, budget, not-deeper s S within os os′ fewer o e), lands (kept s o) refl)
+      by-depth : (d : Bool) → tooDeep s os o ≡ d → eqb (nodeOf n) null ≡ false → circular s os o ≡ false → B ≡ true
+          → Follows context S B os (attr (val n) a (val w)) (Bool.cond d (halts depth) (counts (AttrApp a) (opened s)))
+      by-depth true e no-null no-circle budget = tt
+      by-depth false e no-null no-circle budget =
+          inr (opened S, rw (no-null, not-circular s S within os o no-circle, budget, not-deeper s S within os o e), lands (kept s o) refl)
 
       deep : Due
       deep = Bool.cond (tooDeep s os o) (halts depth) (counts (AttrApp a) (opened s))
 
-      by-budget : (c : Bool) → b ≡ c → eqb (nodeOf n) null ≡ false → Follows context S B os′ (attr (val n) a (val w)) (Bool.cond c deep (halts spent))
-      by-budget true e no-null = by-depth (tooDeep s os o) refl no-null (budgets e)
-      by-budget false e no-null = tt
+      by-budget : (c : Bool) → b ≡ c → eqb (nodeOf n) null ≡ false → circular s os o ≡ false
+          → Follows context S B os (attr (val n) a (val w)) (Bool.cond c deep (halts spent))
+      by-budget true e no-null no-circle = by-depth (tooDeep s os o) refl no-null no-circle (budgets e)
+      by-budget false e no-null no-circle = tt
+
+      by-circle : (c : Bool) → circular s os o ≡ c → eqb (nodeOf n) null ≡ false
+          → Follows context S B os (attr (val n) a (val w)) (Bool.cond c (halts circle) (Bool.cond b deep (halts spent)))
+      by-circle true e no-null = tt
+      by-circle false e no-null = by-budget b refl no-null e
 
       by-null : (z : Bool) → eqb (nodeOf n) null ≡ z
-          → Follows context S B os′ (attr (val n) a (val w)) (Bool.cond z (halts (as-plain on-null)) (Bool.cond b deep (halts spent)))
+          → Follows context S B os (attr (val n) a (val w))
+          (Bool.cond z (halts (as-plain on-null)) (Bool.cond (circular s os o) (halts circle) (Bool.cond b deep (halts spent))))
       by-null true e = rw e
-      by-null false e = by-budget b refl e
+      by-null false e = by-circle (circular s os o) refl e
 
   -- Whatever the smaller run does, the larger follows.
-  follows : (os os′ : List Occurrence) → length os′ ≤ length os → {t t′ : Running} → Ahead S t t′ → Faithful context t
-      → Follows context S B os′ t′ (due context s b os t)
+  follows : (os : List Occurrence) {t t′ : Running} → Ahead S t t′ → Faithful context t → Follows context S B os t′ (due context s b os t)
   unfolding due duePart
-  follows os os′ fewer same-val f = refl
-  follows os os′ fewer (in-cond {c} {c′} {t} {e} h) f =
-      follows-part context S os′ os′ (λ c. cond c t e) (λ c. cond c t e) _ (λ u u′ h. in-cond h) (λ B u. refl)
-      B c′ _ (due context s b os c) (follows os os′ fewer h (f .0))
-      λ v is. follows-count context S b B budgets os′ _ _ (cond c′ t e) (ap (λ u. due context S B os′ (cond u t e)) is)
-  follows os os′ fewer (in-app {f = g} {f′ = g′} {x} {x′} h k) f =
-      follows-part context S os′ os′ (λ g. app g x) (λ g. app g x′) _ (λ u u′ h. in-app h k) (λ B u. refl)
-      B g′ _ (due context s b os g) (follows os os′ fewer h (f .0))
+  follows os same-val f = refl
+  follows os (in-cond {c} {c′} {t} {e} h) f =
+      follows-part context S os os (λ c. cond c t e) (λ c. cond c t e) _ (λ u u′ h. in-cond h) (λ B u. refl)
+      B c′ _ (due context s b os c) (follows os h (f .0))
+      λ v is. follows-count context S b B budgets os _ _ (cond c′ t e) (ap (λ u. due context S B os (cond u t e)) is)
+  follows os (in-app {f = g} {f′ = g′} {x} {x′} h k) f =
+      follows-part context S os os (λ g. app g x) (λ g. app g x′) _ (λ u u′ h. in-app h k) (λ B u. refl)
+      B g′ _ (due context s b os g) (follows os h (f .0))
       λ v is. rw is (
-      follows-part context S os′ os′ (λ x. app (val v) x) (λ x. app (val v) x) _ (λ u u′ h. in-app same-val h) (λ B u. refl)
-      B x′ _ (due context s b os x) (follows os os′ fewer k (f .1))
-      λ w is. follows-app context S b B budgets os′ (app (val v) x′) (apply v w) (ap (λ u. due context S B os′ (app (val v) u)) is))
-  follows os os′ fewer (in-attr {n} {n′} {x} {x′} {a} h k) f =
-      follows-part context S os′ os′ (λ n. attr n a x) (λ n. attr n a x′) _ (λ u u′ h. in-attr h k) (λ B u. refl)
-      B n′ _ (due context s b os n) (follows os os′ fewer h (f .0))
+      follows-part context S os os (λ x. app (val v) x) (λ x. app (val v) x) _ (λ u u′ h. in-app same-val h) (λ B u. refl)
+      B x′ _ (due context s b os x) (follows os k (f .1))
+      λ w is. follows-app context S b B budgets os (app (val v) x′) (apply v w) (ap (λ u. due context S B os (app (val v) u)) is))
+  follows os (in-attr {n} {n′} {x} {x′} {a} h k) f =
+      follows-part context S os os (λ n. attr n a x) (λ n. attr n a x′) _ (λ u u′ h. in-attr h k) (λ B u. refl)
+      B n′ _ (due context s b os n) (follows os h (f .0))
       λ v is. rw is (
-      follows-part context S os′ os′ (λ x. attr (val v) a x) (λ x. attr (val v) a x) _ (λ u u′ h. in-attr same-val h) (λ B u. refl)
-      B x′ _ (due context s b os x) (follows os os′ fewer k (f .1))
-      λ w is. rw is (follows-attr os os′ fewer v w a))
-  follows os os′ fewer (in-form {o} {e} {e′} h) f =
-      follows-part context S os′ (o ∷ os′) (λ e. form o e) (λ e. form o e) _ (λ u u′ h. in-form h) (λ B u. refl)
-      B e′ _ (due context s b (o ∷ os) e) (follows (o ∷ os) (o ∷ os′) (omega arith) h (f .1))
-      λ v is. inr (val v, ap (λ u. due context S B os′ (form o u)) is, same-val)
-  follows os os′ fewer (done {o} {e} {v} k) f = follows-done os os′ o e v k f
+      follows-part context S os os (λ x. attr (val v) a x) (λ x. attr (val v) a x) _ (λ u u′ h. in-attr same-val h) (λ B u. refl)
+      B x′ _ (due context s b os x) (follows os k (f .1))
+      λ w is. rw is (follows-attr os v w a))
+  follows os (in-form {o} {e} {e′} h) f =
+      follows-part context S os (o ∷ os) (λ e. form o e) (λ e. form o e) _ (λ u u′ h. in-form h) (λ B u. refl)
+      B e′ _ (due context s b (o ∷ os) e) (follows (o ∷ os) h (f .1))
+      λ v is. inr (val v, ap (λ u. due context S B os (form o u)) is, same-val)
+  follows os (done {o} {e} {v} k) f = follows-done os o e v k f
 
 -- ---- Runs
 
@@ -274,7 +292,7 @@ module _ (context : ℕ → ℕ → Expr) (C C′ budget : ℕ) where
   unfolding dueAt
   followed st st′ h =
       follows context (st .entries) (st′ .entries) (h .within) (h .right-small) (h .right-large) (ltb (st .steps) budget) (ltb (st′ .steps) budget)
-      (λ e. lt-ltb (st′ .steps) budget (omega (arith, ltb-true (st .steps) budget e, h .no-more))) [] [] (omega arith) (h .ahead) (h .faithful)
+      (λ e. lt-ltb (st′ .steps) budget (omega (arith, ltb-true (st .steps) budget e, h .no-more))) [] (h .ahead) (h .faithful)
 
   -- Both go on with their stores as they are.
   onward : {st st′ : State} → Behind context C st st′ → {t t′ : Running} → Faithful context t → Ahead (st′ .entries) t t′ → {k k′ : ℕ} → k′ ≤ k
@@ -351,6 +369,7 @@ module _ (context : ℕ → ℕ → Expr) (C C′ budget : ℕ) where
   catches (ends-by {st} {r = as-plain why} d) st′ h large run =
       let end = after context C′ budget run (rw d at (followed st st′ h)) in
       rw end (refl, h .no-more)
+  catches (ends-by {r = circle} d) st′ h large run = tt
   catches (ends-by {r = spent} d) st′ h large run = tt
   catches (ends-by {r = depth} d) st′ h large run = tt
   catches (goes-counted {st} {e} d rest) st′ h large run =

@@ -12,6 +12,7 @@ pub mod Reading
 pub mod Gaps
 pub mod Accepted
 pub mod PlainFacts
+pub mod Places
 pub mod Erasure
 pub mod RunEnds
 pub mod Keeping
@@ -27,3 +28,5 @@ pub mod Calls
 pub mod Tallies
 pub mod Safety
 pub mod Demand3
+pub mod PlainCircles
+pub mod TableCircles

@@ -16,7 +16,7 @@ use Rattle.saiga.specs.Expressions.{Expr, Scope}
 use Rattle.saiga.specs.Types.{Attribute, attributeAt}
 use Rattle.saiga.specs.Terms.{Occurrence, put}
 use Rattle.saiga.specs.Plain.{Plain, PlainStep, is-value, steps-to, ends-without, on-null, stepPart, plainApplication, plainAttribute, plainStep, plainAt}
-use Rattle.saiga.specs.Caching.{Entry, sameOccurrence, kept, isKept, write, Running, Counted, AppApp, AttrApp, Reason, as-plain, spent, depth, Due, finished, counts, writes, halts, duePart, count, condRule, appApp, keptOr, tooDeep, attrApp, due, State, with-value, by, Ended, dueAt, run}
+use Rattle.saiga.specs.Caching.{Entry, sameOccurrence, kept, isKept, write, Running, Counted, AppApp, AttrApp, Reason, as-plain, circle, spent, depth, Due, finished, counts, writes, halts, duePart, count, condRule, appApp, keptOr, circular, tooDeep, attrApp, due, State, with-value, by, Ended, dueAt, run}
 use Rattle.saiga.specs.Runs.{Reaches, at-first, by-counted, by-writing, Traces, none-value, none-by, one-counted, past-writing}
 use Rattle.saiga.specs.Sound.{IsA, ValueIn, ExprIn, literal∈, if∈, application∈, attribute∈, this∈, parameter∈, OccurrenceIn, EntryIn, All, all-none, all-cons, TermIn, PlainIn, RunningIn, val∈, cond∈, app∈, attr∈, form∈, ContextIn}
 use Rattle.saiga.proofs.FourBytes.{by-ends, int-in, bool-in}
@@ -105,7 +105,7 @@ module _ (nodes : ℕ) (sig : List Attribute) where
   due-occurrence v a x ha hv hx q = record { node-declared = declared hv q; attribute-declared = ha; parameter-in = hx }
 
   -- σ of an occurrence has its attribute's type
-  σ-in : {F : Type 0} {FormIn : F → Base → Type 0} (context : ℕ → ℕ → Expr) → ContextIn nodes sig context → (o : Occurrence) → OccurrenceIn nodes sig o
+  pub σ-in : {F : Type 0} {FormIn : F → Base → Type 0} (context : ℕ → ℕ → Expr) → ContextIn nodes sig context → (o : Occurrence) → OccurrenceIn nodes sig o
       → TermIn FormIn nodes sig (put (o .node) (o .parameter) (context (o .node) (o .attribute))) (base (attributeAt sig (o .attribute) .result))
   σ-in {F} {FormIn} context c o h =
       rw (c .same-nodes) at
@@ -243,10 +243,11 @@ module _ (nodes : ℕ) (sig : List Attribute) where
     unfolding attrApp
     attrApp-in os v a x ha hv hx =
         either D (eqb (nodeOf v) null) {x = halts (as-plain on-null)} (λ _. tt)
-        (λ q. either D b {y = halts spent}
+        (λ q. either D (circular s os _) {x = halts circle} (λ _. tt)
+        (λ _. either D b {y = halts spent}
         (λ _. either D (tooDeep s os _) {x = halts depth} (λ _. tt)
         (λ _. let o = due-occurrence nodes sig v a x ha hv hx q in (ha, form∈ (o, refl) (keptOr-in _ o _ refl))))
-        (λ _. tt))
+        (λ _. tt)))
       where
         D : Due → Type 0
         D d = DueIn nodes sig (base (attributeAt sig a .result)) d

@@ -14,7 +14,7 @@ use Rattle.saiga.specs.Values.{Value, null, truth, Applied, gives, overf
 use Rattle.saiga.specs.Expressions.{Expr, literal, if, application, attribute, this, parameter}
 use Rattle.saiga.specs.Terms.{Occurrence, val, cond, app, attr, form, put}
 use Rattle.saiga.specs.Plain.{on-null, by-overflow}
-use Rattle.saiga.specs.Caching.{Entry, Running, kept, keptOr, write, Due, finished, counts, writes, halts, Counted, AppApp, AttrApp, Reason, as-plain, spent, depth, duePart, count, appApp, tooDeep, attrApp, due, State, with-value, by, Ended, dueAt, run}
+use Rattle.saiga.specs.Caching.{Entry, Running, kept, keptOr, write, Due, finished, counts, writes, halts, Counted, AppApp, AttrApp, Reason, as-plain, circle, spent, depth, duePart, count, appApp, circular, tooDeep, attrApp, due, State, with-value, by, Ended, dueAt, run}
 use Rattle.saiga.specs.Tally.{trace}
 use Rattle.saiga.specs.Runs.{Runs, ends-value, ends-by, goes-counted, goes-writing, Traces, none-value, none-by, one-counted, past-writing}
 
@@ -31,6 +31,7 @@ forms (form o e) = suc (forms e)
 -- The run stops for its budget only where none is left.
 abbrev Spends : Bool → Reason → Type 0
 Spends b (as-plain why) = Unit {0}
+Spends b circle = Unit {0}
 Spends b spent = b ≡ false
 Spends b depth = Unit {0}
 
@@ -97,19 +98,22 @@ one-left n = omega arith
 module _ (context : ℕ → ℕ → Expr) (s : List Entry) (b : Bool) where
   falls-attr : (os : List Occurrence) (o : Occurrence) (n : ℕ) → Falls b n (attrApp context s b os o)
   unfolding attrApp forms
-  falls-attr os o n = go (eqb (o .node) null) b refl (tooDeep s os o)
+  falls-attr os o n = go (eqb (o .node) null) (circular s os o) b refl (tooDeep s os o)
     where
       t : Running
       t = form o (keptOr (kept s o) (put (o .node) (o .parameter) (context (o .node) (o .attribute))))
 
-      go : (z c : Bool) → b ≡ c → (d : Bool)
-          → Falls b n (Bool.cond z (halts (as-plain on-null)) (Bool.cond c (Bool.cond d (halts depth) (counts (AttrApp (o .attribute)) t)) (halts spent)))
-      go true c e d = falls-halts {r = as-plain on-null} tt
-      go false true e true = falls-halts {r = depth} tt
-      go false true e false =
+      go : (z around c : Bool) → b ≡ c → (d : Bool)
+          → Falls b n
+          (Bool.cond z (halts (as-plain on-null))
+          (Bool.cond around (halts circle) (Bool.cond c (Bool.cond d (halts depth) (counts (AttrApp (o .attribute)) t)) (halts spent))))
+      go true around c e d = falls-halts {r = as-plain on-null} tt
+      go false true c e d = falls-halts {r = circle} tt
+      go false false true e true = falls-halts {r = depth} tt
+      go false false true e false =
           let p = forms-kept (kept s o) (put (o .node) (o .parameter) (context (o .node) (o .attribute))) (forms-put (o .node) (o .parameter) (context (o .node) (o .attribute))) in
           falls-counts {t = t} e (omega arith)
-      go false false e d = falls-halts {r = spent} e
+      go false false false e d = falls-halts {r = spent} e
 
   falls : (os : List Occurrence) (t : Running) → Falls b (forms t) (due context s b os t)
   unfolding due forms

@@ -111,7 +111,7 @@ typed (this∈ h) = Types.this∈
 typed (parameter∈ h) = Types.parameter∈
 
 -- A question as it runs has its type, whatever is put for the 0x30 and 0x31 that it has not.
-asked-in : {F : Type 0} {FormIn : F → Base → Type 0} (s : Sheet) {e : Expr} {T : Ty} → ExprIn (questionScope s) (s .attributes) unitT e T
+pub asked-in : {F : Type 0} {FormIn : F → Base → Type 0} (s : Sheet) {e : Expr} {T : Ty} → ExprIn (questionScope s) (s .attributes) unitT e T
     → TermIn FormIn (nodeCount s) (s .attributes) (asked e) T
 unfolding asked questionScope
 asked-in s h = put-in 0 unit (λ no-this. absurd (false≢true no-this)) (λ no-parameter. absurd (false≢true no-parameter)) h

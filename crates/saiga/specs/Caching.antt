@@ -46,10 +46,11 @@ pub data Counted : Type 0 where
   CondTrue CondFalse AppApp : Counted
   AttrApp : ℕ → Counted
 
--- The stops of the run: where plain Saiga ends too, 14 on null and 17 by overflow; and 15 spent, 16 depth, which are the limits'.
+-- The stops of the run: where plain Saiga ends too, 14 on null and 17 by overflow; 20 circle, where it runs for ever; and 15 spent, 16 depth, which
+-- are the limits'.
 pub data Reason : Type 0 where
   as-plain : NoValue → Reason
-  spent depth : Reason
+  circle spent depth : Reason
 
 -- What is due at an expression: it is a value; a counted step, by its rule, leads to another; CacheWrite of an entry, not counted,
 -- leads to another; or the run stops.
@@ -84,21 +85,31 @@ unfoldable pub keptOr : Option Value → Running → Running
 keptOr none t = t
 keptOr (some v) t = val v
 
--- "16 depth: AttrApp due inside 64 open forms, repeats counted", as F-8 of document 02 changes it: "only when the occurrence due is not kept".
+-- whether a form of an occurrence is open
+unfoldable pub isOpen : List Occurrence → Occurrence → Bool
+isOpen [] o = false
+isOpen (p ∷ open-forms) o = sameOccurrence p o || isOpen open-forms o
+
+-- 20 circle: "AttrApp is due on an occurrence that is open and not kept" (F-9 of document 02).
 -- `open-forms` are the forms that stand around the part where AttrApp is due.
+unfoldable pub circular : List Entry → List Occurrence → Occurrence → Bool
+circular s open-forms o = Bool.not (isKept (kept s o)) && isOpen open-forms o
+
+-- "16 depth: AttrApp due inside 64 open forms, repeats counted", as F-8 of document 02 changes it: "only when the occurrence due is not kept".
 unfoldable pub tooDeep : List Entry → List Occurrence → Occurrence → Bool
 tooDeep s open-forms o = Bool.not (isKept (kept s o)) && leb depthLimit (length open-forms)
 
 module _ (context : ℕ → ℕ → Expr) (s : List Entry) (has-budget : Bool) where
-  -- AttrApp: 14, then 15, then 16. "Where several of 14 to 16 are due, the smallest". A kept value has its form too, the 65th inside 64 open
-  -- ones; CacheWrite is due there at once and ends it.
+  -- AttrApp: 14, then 20, then 15, then 16. "Where several of 14 to 16 are due, the smallest", and 20 is "tested after 14 and before 15" (F-9). A
+  -- kept value has its form too, the 65th inside 64 open ones; CacheWrite is due there at once and ends it.
   unfoldable pub attrApp : List Occurrence → Occurrence → Due
   attrApp open-forms o =
       Bool.cond (eqb (o .node) null) (halts (as-plain on-null))
+      (Bool.cond (circular s open-forms o) (halts circle)
       (Bool.cond has-budget
       (Bool.cond (tooDeep s open-forms o) (halts depth)
       (counts (AttrApp (o .attribute)) (form o (keptOr (kept s o) (put (o .node) (o .parameter) (context (o .node) (o .attribute)))))))
-      (halts spent))
+      (halts spent)))
 
   -- "Left part before right part, IF by condition only."
   unfoldable pub due : List Occurrence → Running → Due

@@ -1,5 +1,6 @@
 -- What is kept can never change an answer: the engine's calls against plain Saiga, over every list of questions
--- (document 01, "Contracts": "Demand 3 is a single claim over every list"; F-4 of document 02: "three endings, value, null and overflow").
+-- (document 01, "Contracts": "Demand 3 is a single claim over every list"; document 02, F-4: "three endings, value, null and overflow", and F-9 on
+-- circles).
 use mathlib.Core.List.{List, _∷_, _++_}
 use mathlib.Core.Logic.{_⊎_}
 use mathlib.Core.Path.{_≡_}
@@ -71,6 +72,17 @@ pub record OfSheet (sheet : List ℕ) (s : Sheet) : Type 0 where
       (capacity : ℕ) (first : Lent) → First capacity first → (before : List Call) (question : List ℕ) (e : Expr) →
       checkQuestion s question ≡ accepted e → RunsForEver (context s) (asked e) → (budget : ℕ) →
       HasEnding (outcome-at sheet first before question budget .answer) → ⊥
+  -- Circles: "a question gets this stop only if plain Saiga runs for ever on it, and one on which plain Saiga does so gets this stop, 15 or 16
+  -- under every permitted budget" (F-9). Of plain Saiga itself PlainCircles.antt says when it does so.
+  pub circles :
+      (capacity : ℕ) (first : Lent) → First capacity first → (before : List Call) (question : List ℕ) (e : Expr) →
+      checkQuestion s question ≡ accepted e → (budget : ℕ) →
+      outcome-at sheet first before question budget .answer .number ≡ 20 → RunsForEver (context s) (asked e)
+  pub for-ever :
+      (capacity : ℕ) (first : Lent) → First capacity first → (before : List Call) (question : List ℕ) (e : Expr) →
+      checkQuestion s question ≡ accepted e → RunsForEver (context s) (asked e) → (budget : ℕ) → budget ≤ budgetLimit →
+      let number = outcome-at sheet first before question budget .answer .number in
+      (number ≡ 20) ⊎ (number ≡ 15) ⊎ (number ≡ 16)
   -- Larger stores: where the list brings such an ending, any larger store, given the same list and budgets, brings the same one there
   -- in no more steps.
   pub larger-stores :

@@ -19,6 +19,7 @@ pub mod Safety
 pub mod Calls
 pub mod Tallies
 pub mod Demand3
+pub mod PlainCircles
 pub mod TableL
 pub mod Rows
 pub mod Misreadings
@@ -27,3 +28,4 @@ pub mod TableStores
 pub mod TableTypes
 pub mod TableTally
 pub mod TableOverflow
+pub mod TableCircles

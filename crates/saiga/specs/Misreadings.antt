@@ -3,13 +3,13 @@
 -- TableStores.antt the store's bytes.
 use mathlib.Core.List.{List, [], _∷_, _++_}
 use mathlib.Core.Path.{_≡_}
-use Prim.Native.Nat.{ℕ}
+use Prim.Native.Nat.{ℕ, zero, suc}
 use lib.IntN.{pos, negsuc}
 use Rattle.saiga.specs.Sheet.{context}
 use Rattle.saiga.specs.Plain.{on-null, EndsWithout}
 use Rattle.saiga.specs.Ask.{asking, Answer, asked}
 use Rattle.saiga.specs.TableL.{sheetL, Row, row, bring, brought, Plainly}
-use Rattle.saiga.specs.Rows.{unit-literal, whole, lowest-int, highest-int, minus-one, true-literal, false-literal, null-literal, node-literal, one, two, if-then-else, attribute-of, this-node, the-parameter, rule-for, asks, ends-with, an-int, a-bool, stop}
+use Rattle.saiga.specs.Rows.{times, unit-literal, whole, lowest-int, highest-int, minus-one, true-literal, false-literal, null-literal, node-literal, one, two, if-then-else, attribute-of, this-node, the-parameter, rule-for, asks, ends-with, an-int, a-bool, stop}
 
 -- ---- Sheets
 
@@ -36,82 +36,74 @@ fixed x = attribute-of 1 (node-literal 0) x
 abbrev pub next-of-null : List ℕ → List ℕ
 next-of-null x = attribute-of 0 null-literal x
 
--- subtract(the parameter)(1), and IF le(the parameter)(0) THEN z ELSE e
+-- add(the parameter)(1), and subtract(the parameter)(1)
+abbrev pub one-more : List ℕ
+one-more = two 4 the-parameter (whole 1)
+
 abbrev pub one-less : List ℕ
 one-less = two 5 the-parameter (whole 1)
 
-abbrev pub unless-positive : List ℕ → List ℕ → List ℕ
-unless-positive z e = if-then-else (two 0 the-parameter (whole 0)) z e
+-- Rules by which each attribute from `a` on is the next one of this node, with the parameter: `n` of them.
+abbrev pub links : ℕ → ℕ → List ℕ
+links zero a = []
+links (suc n) a = rule-for 0 a (attribute-of (suc a) this-node the-parameter) ++ links n (suc a)
 
--- One attribute, down, Int with Int parameter; nodes 0 (kind 0) and 1 (kind 1). Down is IF le(the parameter)(0) THEN 0, for kind 1 down of
--- null with the parameter, ELSE down of this node with subtract(the parameter)(1). So a parameter above 0 takes 6 steps to the next
--- AttrApp (AttrApp, two AppApp, CondFalse, two AppApp), and 0 takes 4 (AttrApp, two AppApp, CondTrue) to the branch.
-abbrev pub sheetDown : List ℕ
-sheetDown =
-    0x41 ∷ 2 ∷ 2 ∷
-    0x4E ∷ 0 ∷
-    0x4E ∷ 1 ∷
-    rule-for 0 0 (unless-positive (whole 0) (attribute-of 0 this-node one-less))
-    ++ rule-for 1 0 (unless-positive (attribute-of 0 null-literal the-parameter) (attribute-of 0 this-node one-less))
-    ++ 0x5A ∷ []
+-- Attributes 0 to 15, Int with Int parameter, and their rules, which open many forms in few steps: 0 to 14 are the next of this node with the parameter,
+-- and 15 is IF le(the parameter)(1) THEN e ELSE attribute 0 of this node with subtract(the parameter)(1). So attribute 0 of k comes to e inside 16 × k
+-- forms, after 21 × k - 2 steps: the forms' AttrApp, and for each parameter two AppApp, IF's step and, above 1, two AppApp. Attribute 1 of k comes to it
+-- inside a form less, a step before.
+abbrev pub sixteen : List ℕ
+sixteen = times 16 (0x41 ∷ 2 ∷ 2 ∷ [])
 
-abbrev pub down : ℕ → ℕ → List ℕ
-down n k = attribute-of 0 (node-literal n) (whole k)
+abbrev pub falling : List ℕ → List ℕ
+falling e = links 15 0 ++ rule-for 0 15 (if-then-else (two 0 the-parameter (whole 1)) e (attribute-of 0 this-node one-less))
 
--- Attributes 0 to 3, Int with Int parameter, and last (4), Int. Nodes 0 and 1 of kind 0. Figure: last of node 0 is 9. Rules: last is 9; attributes 0 to 2
--- are the next of this node with the parameter; attribute 3 is IF le(the parameter)(1) THEN add(last)(last) ELSE attribute 0 of this node with
--- subtract(the parameter)(1). So attribute 0 of k has last due inside 4 × k forms, after 9 × k - 2 steps, and attribute 1 inside a form less, a step before.
+-- One node, and attribute 0 of null, with the parameter, at the end of the fall.
+abbrev pub sheetNull : List ℕ
+sheetNull = sixteen ++ 0x4E ∷ 0 ∷ falling (attribute-of 0 null-literal the-parameter) ++ 0x5A ∷ []
+
+-- Nodes 0 and 1 of kind 0, and last (16), Int. Figure: last of node 0 is 9. Rule: last is 9. At the end of the fall stands add(last)(last).
 abbrev pub sheetFall : List ℕ
 sheetFall =
-    0x41 ∷ 2 ∷ 2 ∷
-    0x41 ∷ 2 ∷ 2 ∷
-    0x41 ∷ 2 ∷ 2 ∷
-    0x41 ∷ 2 ∷ 2 ∷
+    sixteen ++
     0x41 ∷ 2 ∷ 0 ∷
     0x4E ∷ 0 ∷
     0x4E ∷ 0 ∷
-    0x56 ∷ 0 ∷ 0 ∷ 4 ∷ 9 ∷ 0 ∷ 0 ∷ 0 ∷
-    rule-for 0 4 (whole 9)
-    ++ rule-for 0 0 (attribute-of 1 this-node the-parameter)
-    ++ rule-for 0 1 (attribute-of 2 this-node the-parameter)
-    ++ rule-for 0 2 (attribute-of 3 this-node the-parameter)
-    ++ rule-for 0 3
-    (if-then-else (two 0 the-parameter (whole 1))
-    (two 4 (attribute-of 4 this-node unit-literal) (attribute-of 4 this-node unit-literal))
-    (attribute-of 0 this-node one-less))
+    0x56 ∷ 0 ∷ 0 ∷ 16 ∷ 9 ∷ 0 ∷ 0 ∷ 0 ∷
+    rule-for 0 16 (whole 9)
+    ++ falling (two 4 (attribute-of 16 this-node unit-literal) (attribute-of 16 this-node unit-literal))
     ++ 0x5A ∷ []
 
 -- last of a node inside 63 forms and inside 64, and by itself
 abbrev pub inside63 : ℕ → List ℕ
-inside63 n = attribute-of 1 (node-literal n) (whole 16)
+inside63 n = attribute-of 1 (node-literal n) (whole 4)
 
 abbrev pub inside64 : ℕ → List ℕ
-inside64 n = attribute-of 0 (node-literal n) (whole 16)
+inside64 n = attribute-of 0 (node-literal n) (whole 4)
 
 abbrev pub last : ℕ → List ℕ
-last n = attribute-of 4 (node-literal n) unit-literal
+last n = attribute-of 16 (node-literal n) unit-literal
 
--- Attributes that are each due again inside themselves, of one node, all with Unit parameter but fed: any (0, Bool) is
--- IF any THEN true ELSE false; more (1, Int) is add(more)(1); above (2, Node) is above of above; fed (3, Int with Int parameter) is
--- fed(fed(the parameter)); and rest (4, Int) is add(1)(rest). AttrApp leads to the next AttrApp in one step, of rest in two.
+-- Attributes choice (0, Int), few (1, Bool), via (2, Int), there (3, Node) and sum (4, Int), all with Int parameter. One node. In each rule the next
+-- attribute, of this node and with add(the parameter)(1), stands in another part: choice is IF few THEN 1 ELSE 0; few is le(via)(1); via is via of there,
+-- with 1; there is there with sum for its parameter; and sum is add(1)(choice). AttrApp leads to the next AttrApp in three steps, of sum in four.
 abbrev pub sheetInside : List ℕ
 sheetInside =
-    0x41 ∷ 1 ∷ 0 ∷
-    0x41 ∷ 2 ∷ 0 ∷
-    0x41 ∷ 3 ∷ 0 ∷
     0x41 ∷ 2 ∷ 2 ∷
-    0x41 ∷ 2 ∷ 0 ∷
+    0x41 ∷ 1 ∷ 2 ∷
+    0x41 ∷ 2 ∷ 2 ∷
+    0x41 ∷ 3 ∷ 2 ∷
+    0x41 ∷ 2 ∷ 2 ∷
     0x4E ∷ 0 ∷
-    rule-for 0 0 (if-then-else (attribute-of 0 this-node unit-literal) true-literal false-literal)
-    ++ rule-for 0 1 (two 4 (attribute-of 1 this-node unit-literal) (whole 1))
-    ++ rule-for 0 2 (attribute-of 2 (attribute-of 2 this-node unit-literal) unit-literal)
-    ++ rule-for 0 3 (attribute-of 3 this-node (attribute-of 3 this-node the-parameter))
-    ++ rule-for 0 4 (two 4 (whole 1) (attribute-of 4 this-node unit-literal))
+    rule-for 0 0 (if-then-else (attribute-of 1 this-node one-more) (whole 1) (whole 0))
+    ++ rule-for 0 1 (two 0 (attribute-of 2 this-node one-more) (whole 1))
+    ++ rule-for 0 2 (attribute-of 2 (attribute-of 3 this-node one-more) (whole 1))
+    ++ rule-for 0 3 (attribute-of 3 this-node (attribute-of 4 this-node one-more))
+    ++ rule-for 0 4 (two 4 (whole 1) (attribute-of 0 this-node one-more))
     ++ 0x5A ∷ []
 
--- such an attribute of the node, with a parameter
-abbrev pub inside : ℕ → List ℕ → List ℕ
-inside a x = attribute-of a (node-literal 0) x
+abbrev pub choice : ℕ → List ℕ
+choice k = attribute-of 0 (node-literal 0) (whole k)
 
 -- ---- Rows
 
@@ -131,12 +123,8 @@ runs =
     -- A full store drops nothing, and CacheWrite then changes nothing.
     row sheetP 1 (asking (next (whole 3)) 1000000 ∷ asking (next (whole 4)) 1000000 ∷ asking (next (whole 4)) 1000000 ∷ asking (next (whole 3)) 1000000 ∷ [])
     (an-int (pos 4) 3 1 ∷ an-int (pos 5) 3 1 ∷ an-int (pos 5) 3 1 ∷ an-int (pos 4) 1 1 ∷ []) ∷
-    -- A kept figure needs no depth: down(0) is kept and due inside the 64 forms of down(64) to down(1), after 64 × 6 steps. Down(65) comes to the
-    -- 64 forms of down(65) to down(2), and down(1) is not kept.
-    row sheetDown 1 (asking (down 0 0) 1000000 ∷ asking (down 0 64) 1000000 ∷ asking (down 0 65) 1000000 ∷ [])
-    (an-int (pos 0) 4 1 ∷ an-int (pos 0) 385 1 ∷ stop 16 384 1 ∷ []) ∷
-    -- 14 before 15 and 16: down of null is due inside the 64 forms of down(63) to down(0), after 63 × 6 + 4 steps, the whole budget.
-    asks sheetDown 1 (down 1 63) 382 (stop 14 382 0) ∷
+    -- 14 before 15 and 16: an attribute of null is due inside 64 forms, after 82 steps, the whole budget.
+    asks sheetNull 1 (inside64 0) 82 (stop 14 82 0) ∷
     asks sheetP 1 (next-of-null (whole 5)) 0 (stop 14 0 0) ∷
     -- "15 spent: a counted step due with the whole budget used": IF's too, with the steps counted so far.
     asks sheetP 1 (if-then-else true-literal (whole 1) (whole 2)) 0 (stop 15 0 0) ∷
@@ -148,35 +136,28 @@ runs =
 -- whatever else stands between them.
 abbrev pub open-forms : List Row
 open-forms =
-    -- As L12, with a part between a form and the next: IF's condition, an application's left part, an attribute's node part and its
-    -- parameter part, and an application's argument.
-    asks sheetInside 0 (inside 0 unit-literal) 65 (stop 16 64 0) ∷
-    asks sheetInside 0 (inside 1 unit-literal) 65 (stop 16 64 0) ∷
-    asks sheetInside 0 (inside 2 unit-literal) 65 (stop 16 64 0) ∷
-    asks sheetInside 0 (inside 3 (whole 5)) 65 (stop 16 64 0) ∷
-    asks sheetInside 0 (inside 4 unit-literal) 129 (stop 16 128 0) ∷
+    -- Between a form and the next stands, by turns, IF's condition, an application's left part, an attribute's node part and its parameter part, and an
+    -- application's argument. The 64 forms take three steps each, and one more for each of the 12 that are of sum.
+    asks sheetInside 0 (choice 5) 205 (stop 16 204 0) ∷
     []
 
 -- "AttrApp on a kept occurrence goes through with 64 open and counts its one step. Stop 16 is given only when the occurrence due is not kept"
 -- (F-8 of document 02): of last, which is a figure of node 0 and a rule's of node 1.
-abbrev pub depth-rows : ℕ → List Row
-depth-rows n =
-    -- Nothing is kept: taken inside 63 forms, after 141 steps, and too deep inside 64, after 142. With none of the budget left it is spent.
-    row sheetFall 0 (asking (inside63 n) 1000000 ∷ asking (inside64 n) 143 ∷ asking (inside64 n) 142 ∷ [])
-    (an-int (pos 18) 145 0 ∷ stop 16 142 0 ∷ stop 15 142 0 ∷ []) ∷
-    -- Last is kept: taken twice, inside 63 forms and inside 64, each time for one step of the budget.
-    row sheetFall 1 (asking (last n) 1 ∷ asking (inside63 n) 145 ∷ asking (inside64 n) 146 ∷ asking (inside64 n) 142 ∷ [])
-    (an-int (pos 9) 1 1 ∷ an-int (pos 18) 145 1 ∷ an-int (pos 18) 146 1 ∷ stop 15 142 1 ∷ []) ∷
-    []
-
 abbrev pub depths : List Row
 depths =
-    depth-rows 0 ++ depth-rows 1
+    -- Nothing is kept: taken inside 63 forms, after 81 steps, and too deep inside 64, after 82. With none of the budget left it is spent. First
+    -- of the figure, then of the rule.
+    row sheetFall 0 (asking (inside63 0) 1000000 ∷ asking (inside64 0) 83 ∷ asking (inside64 0) 82 ∷ [])
+    (an-int (pos 18) 85 0 ∷ stop 16 82 0 ∷ stop 15 82 0 ∷ []) ∷
+    row sheetFall 0 (asking (inside63 1) 1000000 ∷ asking (inside64 1) 83 ∷ []) (an-int (pos 18) 85 0 ∷ stop 16 82 0 ∷ []) ∷
+    -- Last is kept: taken twice inside 64 forms, each time for one step of the budget.
+    row sheetFall 1 (asking (last 1) 1 ∷ asking (inside64 1) 86 ∷ asking (inside64 1) 82 ∷ [])
+    (an-int (pos 9) 1 1 ∷ an-int (pos 18) 86 1 ∷ stop 15 82 1 ∷ []) ∷
     -- A larger store spares the stop: the smaller is full, with last of the other node.
-    ++ row sheetFall 1 (asking (last 1) 1 ∷ asking (last 0) 1 ∷ asking (inside64 0) 1000000 ∷ [])
-    (an-int (pos 9) 1 1 ∷ an-int (pos 9) 1 1 ∷ stop 16 142 1 ∷ []) ∷
-    row sheetFall 2 (asking (last 1) 1 ∷ asking (last 0) 1 ∷ asking (inside64 0) 1000000 ∷ [])
-    (an-int (pos 9) 1 1 ∷ an-int (pos 9) 1 2 ∷ an-int (pos 18) 146 2 ∷ []) ∷
+    row sheetFall 1 (asking (last 1) 1 ∷ asking (last 0) 1 ∷ asking (inside64 0) 1000000 ∷ [])
+    (an-int (pos 9) 1 1 ∷ an-int (pos 9) 1 1 ∷ stop 16 82 1 ∷ []) ∷
+    row sheetFall 2 (asking (last 1) 1 ∷ asking (last 0) 1 ∷ asking (inside64 0) 86 ∷ [])
+    (an-int (pos 9) 1 1 ∷ an-int (pos 9) 1 2 ∷ an-int (pos 18) 86 2 ∷ []) ∷
     []
 
 -- A question to the single byte 0x5A, and the type, value and steps of its answer.

@@ -100,9 +100,10 @@ tableL =
     row sheetL 1024 (asking ownOfUp 1000000 ∷ []) (answer 14 0 0 (pos 0) 1 1 ∷ []) ∷
     -- L11: "question Int 5, budget 0: 5, steps 0"
     row sheetL 1024 (asking five 0 ∷ []) (answer 0 0 2 (pos 5) 0 0 ∷ []) ∷
-    -- L12: "an attribute defined as itself: budget 65 gives 16 after 64 steps; budget 64 gives 15"
-    row sheetL12 1024 (asking itself 65 ∷ []) (answer 16 0 0 (pos 0) 64 0 ∷ []) ∷
-    row sheetL12 1024 (asking itself 64 ∷ []) (answer 15 0 0 (pos 0) 64 0 ∷ []) ∷
+    -- L12: "an attribute defined as itself" is a circle, "after 1 step when the budget is 1 or more" (F-9); with budget 0 it is 15
+    row sheetL12 1024 (asking itself 1000000 ∷ []) (answer 20 0 0 (pos 0) 1 0 ∷ []) ∷
+    row sheetL12 1024 (asking itself 1 ∷ []) (answer 20 0 0 (pos 0) 1 0 ∷ []) ∷
+    row sheetL12 1024 (asking itself 0 ∷ []) (answer 15 0 0 (pos 0) 0 0 ∷ []) ∷
     -- L13: add(2,147,483,647)(1) "now stops after 1 step" (F-4 of document 02)
     row sheetL 1024 (asking overTheEnd 1000000 ∷ []) (answer 17 0 0 (pos 0) 1 0 ∷ []) ∷
     -- "Empty sheet: 2 at 0. The single byte 0x5A is accepted."

@@ -60,8 +60,8 @@ tallies-L =
     -- L11
     asks sheetL 1024 five 0 no-steps ∷
     -- L12
-    asks sheetL12 1024 itself 65 (first-three 64 0 0 0 0) ∷
-    asks sheetL12 1024 itself 64 (first-three 64 0 0 0 0) ∷
+    asks sheetL12 1024 itself 1000000 (first-three 1 0 0 0 0) ∷
+    asks sheetL12 1024 itself 0 no-steps ∷
     -- L13: the first application
     asks sheetL 1024 overTheEnd 1000000 (first-three 0 0 0 1 0) ∷
     []

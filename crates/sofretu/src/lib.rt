@@ -138,7 +138,7 @@ pub extern "C" fn sofretu_ask_in<'a>(
     lay(a, answer);
 }
 
-// A question call. Its scratch takes some 220 KB of stack.
+// A question call. Its scratch takes some 230 KB of stack.
 #[no_mangle]
 pub extern "C" fn sofretu_ask<'a>(
     sheet: &'a [u8],

@@ -21,7 +21,7 @@ use Rattle.stores.specs.Walks.{bucketCount, planted}
 use Rattle.stores.specs.Keys.{fieldsAt, keyIn, keyAt, entriesIn, isPassed, Linked, EntryTested, storeCheckOf, StoreChecked}
 use Rattle.stores.specs.declared.StoreCheck.the-variants.{Refused, Accepted}
 use Rattle.values.proofs.Declared.{attribute-at, attributes-count}
-use Rattle.stores.proofs.Walks.{linked-none, free-small, linked-more}
+use Rattle.stores.proofs.Linked.{linked-none, free-inside, linked-more}
 use Rattle.stores.proofs.ByKey.{tests, first-tests, entry-read, entry-refused}
 
 -- ---- The tests of an entry
@@ -92,7 +92,7 @@ module _ (types : List ℕ) (attributes nodes : ℕ) (store : List ℕ) (kept : 
         }
 
     pub check-cell : (cell : ℕ) → r ≡ Passes cell → cell < 9216
-    check-cell cell e = free-small store i index (c .linked) last (keyAt store i) cell (test .free cell e)
+    check-cell cell e = free-inside store i index (c .linked) last (keyAt store i) cell (test .free cell e)
 
     check-stops : r ≡ Fails → (s : Sheet) → s .attributes ≡ attributesIn types attributes → nodeCount s ≡ nodes → readEntries s kept [] store ≡ refused 10 at-place i
     unfolding isPassed

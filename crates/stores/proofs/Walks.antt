@@ -1,83 +1,84 @@
--- The index of a store: the walk of a key comes to the entry that a search of all the entries finds, after 16 others at most.
+-- An index over keys: the walk of a key comes to the entry that has it, after 16 others at most.
 use mathlib.Core.Bool.{Bool, true, false, cond}
 use mathlib.Core.List.{List}
-use mathlib.Core.Option.{none, some}
 use mathlib.Core.Path.{_≡_, refl, sym, _∙_, ap}
-use Prim.Native.Nat.{ℕ, zero, suc, _+_, _*_, _-_, _/_, _%_, _≤_, _<_}
-use native.Mathlib.Nat.{mod-lt, le-refl}
+use Prim.Native.Nat.{ℕ, zero, suc, _+_, _-_, _/_, _%_, _≤_, _<_}
+use native.Mathlib.Nat.{mod-lt}
 use native.Mathlib.Numerals.{add-one}
 use native.Mathlib.Omega.{arith}
 use lib.Dec.{eqb, leb, lit<}
-use lib.ListN.{length, take, getD, set, length-set}
+use lib.ListN.{length, getD, set, length-set}
 use lib.Seq.{getD-set-same, getD-set-other}
 use borrow.Author.Tests.{eqb-true, eqb-false, eq-eqb, ne-eqb, leb-true, leb-false}
 use Rattle.saiga.specs.Limits.{entryLimit}
 use Rattle.values.specs.Cells.{emptied}
 use Rattle.values.proofs.Cells.{emptied-length, emptied-inside, emptied-outside}
 use Rattle.stores.specs.declared.Key.{Key}
-use Rattle.stores.specs.declared.Found.{Found}
-use Rattle.stores.specs.declared.Found.the-variants.{At, Nothing}
-use Rattle.stores.specs.Walks.{bucketCount, fanOut, firstCell, cellOf, bucketOf, Keyed, keyDigits, trailOf, restAfter, digitAt, Agree, walk, Passes, Free, planted}
+use Rattle.stores.specs.Walks.{bucketCount, fanOut, firstCell, cellOf, bucketOf, Keyed, keyDigits, trailOf, restAfter, digitAt, Agree, walk, Passes, Free, Without, First, Below, Trie, planted}
 use Rattle.stores.specs.declared.Seen.{Seen}
 use Rattle.stores.specs.declared.Seen.the-variants.{Empty, Has, Other}
-use Rattle.stores.specs.Keys.{sameKey, keyAt, findKey, seenIn, foundOf, FreeIn, First, Below, Linked}
-use Rattle.stores.proofs.Parts.{key-same}
-use Rattle.stores.proofs.Searches.{same-key, other-key, find-none, none-has, find-only}
+use Rattle.stores.specs.Keys.{sameKey, seenIn}
+use Rattle.stores.proofs.Searches.{same-key, other-key}
 use Rattle.stores.proofs.Digits.{same-trail}
 
 -- ---- What is seen at a cell that holds so much
 
-module _ (store : List ℕ) (q : Key) where
+module _ (keys : ℕ → Key) (q : Key) where
   abbrev Shows : ℕ → Seen → Type 0
   Shows n Empty = n ≡ 0
-  Shows n (Has j) = (n ≡ suc j) × (keyAt store j ≡ q)
-  Shows n (Other j) = (n ≡ suc j) × (keyAt store j ≡ q → ⊥)
+  Shows n (Has j) = (n ≡ suc j) × (keys j ≡ q)
+  Shows n (Other j) = (n ≡ suc j) × (keys j ≡ q → ⊥)
 
-  shows : (n : ℕ) → Shows n (seenIn store q n)
+  shows : (n : ℕ) → Shows n (seenIn keys q n)
   unfolding seenIn
   shows zero = refl
-  shows (suc j) = go (sameKey (keyAt store j) q) refl
+  shows (suc j) = go (sameKey (keys j) q) refl
     where
-      go : (b : Bool) → sameKey (keyAt store j) q ≡ b → Shows (suc j) (cond b (Has j) (Other j))
+      go : (b : Bool) → sameKey (keys j) q ≡ b → Shows (suc j) (cond b (Has j) (Other j))
       go true e = (refl, same-key _ _ e)
       go false e = (refl, other-key _ _ e)
 
   -- The code's tests of what the cell holds.
   module _ (n : ℕ) where
-    pub looks-empty : (index : List ℕ) (cell : ℕ) → n ≡ getD index cell 0 → n ≡ 0 → Empty ≡ seenIn store q (getD index cell 0)
+    pub looks-empty : (index : List ℕ) (cell : ℕ) → n ≡ getD index cell 0 → n ≡ 0 → Empty ≡ seenIn keys q (getD index cell 0)
     unfolding seenIn
     looks-empty index cell is e = rw (← is, e)
 
-    module _ (index : List ℕ) (cell : ℕ) (is : n ≡ getD index cell 0) (more : n ≡ 0 → ⊥) {has : Bool} (key : has ≡ sameKey (keyAt store (n - 1)) q) where
+    module _ (index : List ℕ) (cell : ℕ) (is : n ≡ getD index cell 0) (more : n ≡ 0 → ⊥) {has : Bool} (key : has ≡ sameKey (keys (n - 1)) q) where
       one-more : n ≡ suc (n - 1)
       one-more = omega (arith, more)
 
-      pub looks-has : has ≡ true → Has (n - 1) ≡ seenIn store q (getD index cell 0)
+      pub looks-has : has ≡ true → Has (n - 1) ≡ seenIn keys q (getD index cell 0)
       unfolding seenIn
       looks-has e = let content : getD index cell 0 ≡ suc (n - 1) = sym is ∙ one-more in rw (content, ← key, e)
 
-      pub looks-other : has ≡ false → Other (n - 1) ≡ seenIn store q (getD index cell 0)
+      pub looks-other : has ≡ false → Other (n - 1) ≡ seenIn keys q (getD index cell 0)
       unfolding seenIn
       looks-other e = let content : getD index cell 0 ≡ suc (n - 1) = sym is ∙ one-more in rw (content, ← key, e)
 
-  empty-seen : (n : ℕ) → seenIn store q n ≡ Empty → n ≡ 0
+  empty-seen : (n : ℕ) → seenIn keys q n ≡ Empty → n ≡ 0
   empty-seen n e = rw e at (shows n)
 
-  has-seen : (n j : ℕ) → seenIn store q n ≡ Has j → (n ≡ suc j) × (keyAt store j ≡ q)
+  has-seen : (n j : ℕ) → seenIn keys q n ≡ Has j → (n ≡ suc j) × (keys j ≡ q)
   has-seen n j e = rw e at (shows n)
 
-  other-seen : (n j : ℕ) → seenIn store q n ≡ Other j → (n ≡ suc j) × (keyAt store j ≡ q → ⊥)
+  other-seen : (n j : ℕ) → seenIn keys q n ≡ Other j → (n ≡ suc j) × (keys j ≡ q → ⊥)
   other-seen n j e = rw e at (shows n)
 
 -- ---- The walk of a key
 
 -- The search of the code stands at a cell: the walk passed so many entries, none of which has the key.
-pub record Searching (store index : List ℕ) (q : Key) (cell rest passed : ℕ) : Type 0 where
+pub record Searching (keys : ℕ → Key) (index : List ℕ) (q : Key) (cell rest passed : ℕ) : Type 0 where
   pub within : passed ≤ keyDigits
   pub passes : Passes index q passed
   pub at-cell : cell ≡ walk index q passed
   pub left : rest ≡ restAfter (trailOf q) passed
-  pub others : (e j : ℕ) → e < passed → getD index (walk index q e) 0 ≡ suc j → keyAt store j ≡ q → ⊥
+  pub others : (e j : ℕ) → e < passed → getD index (walk index q e) 0 ≡ suc j → keys j ≡ q → ⊥
+
+pub search-starts : (keys : ℕ → Key) (index : List ℕ) (q : Key) (b : ℕ) → b ≡ bucketOf q → Searching keys index q b (trailOf q) 0
+unfolding walk restAfter
+search-starts keys index q b e =
+    record { within = omega arith; passes = λ e h. absurd (omega arith); at-cell = e; left = refl; others = λ e j h. absurd (omega arith) }
 
 walk-start : (index : List ℕ) (q : Key) → walk index q 0 ≡ bucketOf q
 unfolding walk
@@ -98,9 +99,9 @@ shorter index q d p e h = p e (omega arith)
 digit-small : (n d : ℕ) → digitAt n d < fanOut
 digit-small n d = mod-lt _ (lit< tt)
 
-module _ (store : List ℕ) (k : ℕ) (index : List ℕ) (l : Linked store k index) (q : Key) where
+module _ (keys : ℕ → Key) (limit k : ℕ) (index : List ℕ) (l : Trie keys limit k index) (q : Key) where
   -- Its cells are buckets, or of entries that are kept.
-  walk-small : (d : ℕ) → Passes index q d → walk index q d < firstCell k
+  pub walk-small : (d : ℕ) → Passes index q d → walk index q d < firstCell k
   walk-small zero p = rw walk-start (omega (arith, bucket-small q))
   walk-small (suc d) p =
       let some-entry = p d (omega arith) in
@@ -110,8 +111,8 @@ module _ (store : List ℕ) (k : ℕ) (index : List ℕ) (l : Linked store k ind
   -- The entry at its end has its depth, its bucket, and the digits of the key up to there.
   record Met (d j : ℕ) : Type 0 where
     depth : l .depth j ≡ d
-    bucket : bucketOf (keyAt store j) ≡ bucketOf q
-    agree : Agree (trailOf (keyAt store j)) (trailOf q) d
+    bucket : bucketOf (keys j) ≡ bucketOf q
+    agree : Agree (trailOf (keys j)) (trailOf q) d
 
   walk-meets : (d j : ℕ) → Passes index q d → getD index (walk index q d) 0 ≡ suc j → Met d j
   walk-meets zero j p e =
@@ -126,47 +127,39 @@ module _ (store : List ℕ) (k : ℕ) (index : List ℕ) (l : Linked store k ind
       let hangs = l .below i (digitAt (trailOf q) d) j (omega arith) (digit-small (trailOf q) d) (rw (walk-more index q d) at e) in
       record { depth = hangs .deeper ∙ ap suc (above .depth); bucket = hangs .bucket ∙ above .bucket; agree = both above hangs }
     where
-      both : {i : ℕ} → Met d i → Below store (l .depth) i (digitAt (trailOf q) d) j → Agree (trailOf (keyAt store j)) (trailOf q) (suc d)
+      both : {i : ℕ} → Met d i → Below keys (l .depth) i (digitAt (trailOf q) d) j → Agree (trailOf (keys j)) (trailOf q) (suc d)
       both above hangs e h = go (eqb e d) refl
         where
-          go : (b : Bool) → eqb e d ≡ b → digitAt (trailOf (keyAt store j)) e ≡ digitAt (trailOf q) e
+          go : (b : Bool) → eqb e d ≡ b → digitAt (trailOf (keys j)) e ≡ digitAt (trailOf q) e
           go true t = rw (eqb-true e d t, ← above .depth) (hangs .next ∙ ap (digitAt (trailOf q)) (sym (above .depth)))
           go false t = let other = eqb-false e d t in hangs .agree e (rw (above .depth) (omega arith)) ∙ above .agree e (omega arith)
 
   -- ---- The search
 
-  search-starts : Searching store index q (bucketOf q) (trailOf q) 0
-  unfolding walk restAfter
-  search-starts =
-      record { within = omega arith; passes = λ e h. absurd (omega arith); at-cell = refl; left = refl; others = λ e j h. absurd (omega arith) }
-
-  module _ (cell rest passed : ℕ) (at : Searching store index q cell rest passed) where
+  module _ (cell rest passed : ℕ) (at : Searching keys index q cell rest passed) where
     pub cell-small : cell < firstCell k
     cell-small = rw (at .at-cell) (walk-small passed (at .passes))
 
     -- An empty cell: an entry with the key would be passed, or stand here.
-    pub search-ends : getD index cell 0 ≡ 0 → (findKey store k q ≡ none) × Free index q cell
-    search-ends empty = (find-none store k q (λ j h has. absent j h has), record { passed = passed; passes = at .passes; comes = at .at-cell; empty = empty })
+    search-ends : getD index cell 0 ≡ 0 → (j : ℕ) → j < k → keys j ≡ q → ⊥
+    search-ends empty j h has = go (leb passed (l .depth j)) refl
       where
         here : getD index (walk index q passed) 0 ≡ 0
         here = rw (at .at-cell) at empty
 
-        absent : (j : ℕ) → j < k → keyAt store j ≡ q → ⊥
-        absent j h has = go (leb passed (l .depth j)) refl
-          where
-            stands : getD index (walk index q (l .depth j)) 0 ≡ suc j
-            stands = rw has at (l .reached j h)
+        stands : getD index (walk index q (l .depth j)) 0 ≡ suc j
+        stands = rw has at (l .reached j h)
 
-            on : Passes index q (l .depth j)
-            on = rw has at (l .passes j h)
+        on : Passes index q (l .depth j)
+        on = rw has at (l .passes j h)
 
-            deeper : (t : Bool) → eqb passed (l .depth j) ≡ t → passed ≤ l .depth j → ⊥
-            deeper true t below = let same = eqb-true passed (l .depth j) t in let z = rw same at here in omega (arith, stands, z)
-            deeper false t below = let other = eqb-false passed (l .depth j) t in let more = on passed (omega arith) in omega (arith, more, here)
+        deeper : (t : Bool) → eqb passed (l .depth j) ≡ t → passed ≤ l .depth j → ⊥
+        deeper true t below = let same = eqb-true passed (l .depth j) t in let z = rw same at here in omega (arith, stands, z)
+        deeper false t below = let other = eqb-false passed (l .depth j) t in let more = on passed (omega arith) in omega (arith, more, here)
 
-            go : (t : Bool) → leb passed (l .depth j) ≡ t → ⊥
-            go true t = deeper (eqb passed (l .depth j)) refl (leb-true _ _ t)
-            go false t = at .others (l .depth j) j (leb-false _ _ t) stands has
+        go : (t : Bool) → leb passed (l .depth j) ≡ t → ⊥
+        go true t = deeper (eqb passed (l .depth j)) refl (leb-true _ _ t)
+        go false t = at .others (l .depth j) j (leb-false _ _ t) stands has
 
     module _ (j : ℕ) (stands : getD index cell 0 ≡ suc j) where
       here-stands : getD index (walk index q passed) 0 ≡ suc j
@@ -175,11 +168,8 @@ module _ (store : List ℕ) (k : ℕ) (index : List ℕ) (l : Linked store k ind
       pub entry-below : j < k
       entry-below = let kept = l .within cell cell-small in omega (arith, kept, stands)
 
-      search-finds : keyAt store j ≡ q → findKey store k q ≡ some j
-      search-finds has = find-only store k q j entry-below has (λ i h same. l .differ i j h entry-below (same ∙ sym has))
-
       -- An entry with another key differs from it in a digit, so that digits are left.
-      search-goes-on : Keyed q → (keyAt store j ≡ q → ⊥) → Searching store index q (cellOf j (rest % 8)) (rest / 8) (suc passed)
+      search-goes-on : Keyed q → (keys j ≡ q → ⊥) → Searching keys index q (cellOf j (rest % 8)) (rest / 8) (suc passed)
       unfolding walk restAfter
       search-goes-on keyed differs =
           record {
@@ -199,7 +189,7 @@ module _ (store : List ℕ) (k : ℕ) (index : List ℕ) (l : Linked store k ind
           passes-on d h true b = rw (eqb-true d passed b) (omega (arith, here-stands))
           passes-on d h false b = let other = eqb-false d passed b in at .passes d (omega arith)
 
-          others-on : (d i : ℕ) → d < suc passed → (b : Bool) → eqb d passed ≡ b → getD index (walk index q d) 0 ≡ suc i → keyAt store i ≡ q → ⊥
+          others-on : (d i : ℕ) → d < suc passed → (b : Bool) → eqb d passed ≡ b → getD index (walk index q d) 0 ≡ suc i → keys i ≡ q → ⊥
           others-on d i h true b found has =
               let same : suc j ≡ suc i = sym here-stands ∙ rw (eqb-true d passed b) at found in
               let entry : j ≡ i = omega arith in
@@ -209,65 +199,117 @@ module _ (store : List ℕ) (k : ℕ) (index : List ℕ) (l : Linked store k ind
     pub look-inside : cell < length index
     look-inside = omega (arith, cell-small, l .size, l .few)
 
-    pub look-stands : 12 * getD index cell 0 ≤ length store
-    look-stands = omega (arith, l .within cell cell-small, l .stands)
-
     -- What the code sees there.
-    module _ {seen : Seen} (is : seen ≡ seenIn store q (getD index cell 0)) where
-      pub sees-nothing : seen ≡ Empty → foundOf (Nothing cell) ≡ findKey store k q
-      unfolding foundOf
-      sees-nothing e = sym (search-ends (empty-seen store q _ (sym is ∙ e)) .0)
+    module _ {seen : Seen} (is : seen ≡ seenIn keys q (getD index cell 0)) where
+      pub sees-none : seen ≡ Empty → (j : ℕ) → j < k → keys j ≡ q → ⊥
+      sees-none e = search-ends (empty-seen keys q _ (sym is ∙ e))
 
       pub sees-free : seen ≡ Empty → Free index q cell
-      sees-free e = search-ends (empty-seen store q _ (sym is ∙ e)) .1
+      sees-free e = record { passed = passed; passes = at .passes; comes = at .at-cell; empty = empty-seen keys q _ (sym is ∙ e) }
 
-      pub sees-entry : (j : ℕ) → seen ≡ Has j → foundOf (At j) ≡ findKey store k q
-      unfolding foundOf
-      sees-entry j e = let (stands, has) = has-seen store q _ j (sym is ∙ e) in sym (search-finds j stands has)
+      pub sees-key : (j : ℕ) → seen ≡ Has j → (j < k) × (keys j ≡ q)
+      sees-key j e = let (stands, has) = has-seen keys q _ j (sym is ∙ e) in (entry-below j stands, has)
 
       module _ (j : ℕ) (other : seen ≡ Other j) where
         stands-here : getD index cell 0 ≡ suc j
-        stands-here = other-seen store q _ j (sym is ∙ other) .0
+        stands-here = other-seen keys q _ j (sym is ∙ other) .0
 
-        pub other-below : j < entryLimit
+        pub other-below : j < limit
         other-below = omega (arith, entry-below j stands-here, l .few)
 
-        goes-on : Keyed q → Searching store index q (cellOf j (rest % 8)) (rest / 8) (suc passed)
-        goes-on keyed = search-goes-on j stands-here keyed (other-seen store q _ j (sym is ∙ other) .1)
+        goes-on : Keyed q → Searching keys index q (cellOf j (rest % 8)) (rest / 8) (suc passed)
+        goes-on keyed = search-goes-on j stands-here keyed (other-seen keys q _ j (sym is ∙ other) .1)
 
-        pub sees-other : Keyed q → (cell′ : ℕ) → cell′ ≡ cellOf j (rest % 8) → Searching store index q cell′ (rest / 8) (passed + 1)
+        pub sees-other : Keyed q → (cell′ : ℕ) → cell′ ≡ cellOf j (rest % 8) → Searching keys index q cell′ (rest / 8) (passed + 1)
         sees-other keyed cell′ e = rw (e, add-one) (goes-on keyed)
 
   -- ---- The first entry of the bucket
 
-  pub first-inside : (b : ℕ) → b ≡ bucketOf q → b < length index
-  first-inside b e = rw e (look-inside _ _ 0 search-starts)
+  module _ (b : ℕ) (bucket : b ≡ bucketOf q) where
+    pub first-inside : b < length index
+    first-inside = look-inside b _ 0 (search-starts _ _ q b bucket)
 
-  pub first-stands : (b : ℕ) → b ≡ bucketOf q → 12 * getD index b 0 ≤ length store
-  first-stands b e = rw e (look-stands _ _ 0 search-starts)
+    pub first-free : {seen : Seen} → seen ≡ seenIn keys q (getD index b 0) → seen ≡ Empty → Free index q b
+    first-free is e = sees-free b _ 0 (search-starts _ _ q b bucket) is e
 
-  module _ (b : ℕ) (bucket : b ≡ bucketOf q) {seen : Seen} (is : seen ≡ seenIn store q (getD index b 0)) where
-    at-bucket : seen ≡ seenIn store q (getD index (bucketOf q) 0)
-    at-bucket = rw bucket at is
+    pub first-other : {seen : Seen} → seen ≡ seenIn keys q (getD index b 0) → (j : ℕ) → seen ≡ Other j → seenIn keys q (getD index (bucketOf q) 0) ≡ Other j
+    first-other is j e = sym (rw bucket at is) ∙ e
 
-    pub first-nothing : seen ≡ Empty → foundOf (Nothing b) ≡ findKey store k q
-    first-nothing e = rw bucket (sees-nothing _ _ 0 search-starts at-bucket e)
+  module _ (j : ℕ) (other : seenIn keys q (getD index (bucketOf q) 0) ≡ Other j) where
+    pub first-below : j < limit
+    first-below = other-below _ _ 0 (search-starts _ _ q _ refl) refl j other
 
-    pub first-free : seen ≡ Empty → Free index q b
-    first-free e = rw bucket (sees-free _ _ 0 search-starts at-bucket e)
+    pub search-goes-below : Keyed q → (whole cell : ℕ) → whole ≡ trailOf q → cell ≡ cellOf j (whole % 8) → Searching keys index q cell (whole / 8) 1
+    search-goes-below keyed whole cell e f = rw (f, e) (goes-on _ _ 0 (search-starts _ _ q _ refl) refl j other keyed)
 
-    pub first-entry : (j : ℕ) → seen ≡ Has j → foundOf (At j) ≡ findKey store k q
-    first-entry j e = sees-entry _ _ 0 search-starts at-bucket j e
+-- ---- Where no entry has the key
 
-    pub first-other : (j : ℕ) → seen ≡ Other j → seenIn store q (getD index (bucketOf q) 0) ≡ Other j
-    first-other j e = sym at-bucket ∙ e
+module _ (index : List ℕ) (q : Key) (w : Without index q) (cell rest passed : ℕ) (at : Searching (w .keys) index q cell rest passed) where
+  past-inside : cell < length index
+  past-inside = look-inside (w .keys) entryLimit (w .count) index (w .trie) q cell rest passed at
 
-  module _ (j : ℕ) (other : seenIn store q (getD index (bucketOf q) 0) ≡ Other j) where
-    pub first-below : j < entryLimit
-    first-below = other-below _ _ 0 search-starts refl j other
+  -- The walk ends at an empty cell, and passes every entry.
+  past-free : getD index cell 0 ≡ 0 → Free index q cell
+  past-free empty = record { passed = passed; passes = at .passes; comes = at .at-cell; empty = empty }
 
-    pub search-goes-below : Keyed q → (whole cell : ℕ) → whole ≡ trailOf q → cell ≡ cellOf j (whole % 8) → Searching store index q cell (whole / 8) 1
-    search-goes-below keyed whole cell e f = rw (f, e) (goes-on _ _ 0 search-starts refl j other keyed)
+  module _ (more : getD index cell 0 ≡ 0 → ⊥) where
+    stands-past : getD index cell 0 ≡ suc (getD index cell 0 - 1)
+    stands-past = omega (arith, more)
+
+    entry-past : getD index cell 0 - 1 < w .count
+    entry-past = entry-below (w .keys) entryLimit (w .count) index (w .trie) q cell rest passed at _ stands-past
+
+    goes-past : Searching (w .keys) index q (cellOf (getD index cell 0 - 1) (rest % 8)) (rest / 8) (suc passed)
+    goes-past =
+        search-goes-on (w .keys) entryLimit (w .count) index (w .trie) q cell rest passed at (getD index cell 0 - 1) stands-past (w .keyed)
+        (w .none-has _ entry-past)
+
+-- The loop of the code, which does not look at the key, walks for every key of this trail whose bucket has this first entry.
+abbrev pub Walking : List ℕ → ℕ → ℕ → ℕ → ℕ → ℕ → Type 0
+Walking index first whole cell rest passed =
+    (q : Key) (w : Without index q) → getD index (bucketOf q) 0 ≡ first + 1 → whole ≡ trailOf q → Searching (w .keys) index q cell rest passed
+
+pub walking-starts : (index : List ℕ) (first whole cell : ℕ) → cell ≡ cellOf first (whole % 8) → Walking index first whole cell (whole / 8) 1
+walking-starts index first whole cell is q w stands trail =
+    let entry-is : getD index (bucketOf q) 0 - 1 ≡ first = omega (arith, stands) in
+    rw (is, trail) (rw entry-is at (goes-past index q w (bucketOf q) _ 0 (search-starts _ _ q _ refl) (omega (arith, stands))))
+
+pub walking-on : (index : List ℕ) (first whole cell rest passed : ℕ) → Walking index first whole cell rest passed → (n : ℕ) → n ≡ getD index cell 0 → (n ≡ 0 → ⊥)
+    → (cell′ : ℕ) → cell′ ≡ cellOf (n - 1) (rest % 8) → Walking index first whole cell′ (rest / 8) (passed + 1)
+walking-on index first whole cell rest passed at n is more cell′ e q w stands trail =
+    rw (e, is, add-one) (goes-past index q w cell rest passed (at q w stands trail) (λ empty. more (is ∙ empty)))
+
+module _ (index : List ℕ) (q : Key) (w : Without index q) where
+  -- the first entry of the bucket
+  pub bucket-inside : (b : ℕ) → b ≡ bucketOf q → b < length index
+  bucket-inside b bucket = past-inside index q w b _ 0 (search-starts _ _ q b bucket)
+
+  pub bucket-free : (b : ℕ) → b ≡ bucketOf q → (n : ℕ) → n ≡ getD index b 0 → n ≡ 0 → Free index q b
+  bucket-free b bucket n is empty = past-free index q w b _ 0 (search-starts _ _ q b bucket) (sym is ∙ empty)
+
+  pub bucket-stands : (b : ℕ) → b ≡ bucketOf q → (n : ℕ) → n ≡ getD index b 0 → (n ≡ 0 → ⊥) → getD index (bucketOf q) 0 ≡ n - 1 + 1
+  bucket-stands b bucket n is more = omega (arith, rw bucket at is, more)
+
+  pub bucket-below : (first : ℕ) → getD index (bucketOf q) 0 ≡ first + 1 → first < entryLimit
+  bucket-below first stands =
+      omega (arith, entry-past index q w (bucketOf q) _ 0 (search-starts _ _ q _ refl) (omega (arith, stands)), w .trie .few, stands)
+
+  -- what the loop walks for
+  module _ (first whole : ℕ) (stands : getD index (bucketOf q) 0 ≡ first + 1) (trail : whole ≡ trailOf q)
+      (cell rest passed : ℕ) (at : Walking index first whole cell rest passed) where
+    pub walking-inside : cell < length index
+    walking-inside = past-inside index q w cell rest passed (at q w stands trail)
+
+    pub walking-free : (n : ℕ) → n ≡ getD index cell 0 → n ≡ 0 → Free index q cell
+    walking-free n is empty = past-free index q w cell rest passed (at q w stands trail) (sym is ∙ empty)
+
+    pub walking-below : (n : ℕ) → n ≡ getD index cell 0 → (n ≡ 0 → ⊥) → n - 1 < entryLimit
+    walking-below n is more =
+        omega (arith, entry-past index q w cell rest passed (at q w stands trail) (λ empty. more (is ∙ empty)), w .trie .few, is)
+
+    -- An entry that has every digit has the key, so the walk ends before.
+    pub walking-over : keyDigits < passed → Free index q cell
+    walking-over over = absurd (omega (arith, at q w stands trail .within))
 
 -- ---- Cells are written
 
@@ -288,17 +330,17 @@ module _ (index : List ℕ) (cell k : ℕ) (small : cell < firstCell k) (fits : 
 
 -- ---- One entry more
 
-pub free-small : (store : List ℕ) (k : ℕ) (index : List ℕ) → Linked store k index → k < 1024 → (q : Key) (cell : ℕ) → Free index q cell → cell < 9216
-free-small store k index l few q cell free = rw (free .comes) (omega (arith, few, walk-small store k index l q (free .passed) (free .passes)))
+pub free-small : (keys : ℕ → Key) (limit k : ℕ) (index : List ℕ) → Trie keys limit k index → (q : Key) (cell : ℕ) → Free index q cell → cell < firstCell k
+free-small keys limit k index l q cell free = rw (free .comes) (walk-small keys limit k index l q (free .passed) (free .passes))
 
 -- Entry k has a key that no entry before it has, and the walk of the key comes to an empty cell: the entry is put there.
-module _ (store : List ℕ) (k : ℕ) (index : List ℕ) (l : Linked store k index) (few : k < 1024) (q : Key) (has : keyAt store k ≡ q) (keyed : Keyed q)
-    (new : findKey store k q ≡ none) (cell : ℕ) (free : Free index q cell) where
+module _ (keys : ℕ → Key) (limit k : ℕ) (index : List ℕ) (l : Trie keys limit k index) (few : k < limit) (q : Key) (has : keys k ≡ q) (keyed : Keyed q)
+    (new : (j : ℕ) → j < k → keys j ≡ q → ⊥) (cell : ℕ) (free : Free index q cell) where
   abbrev after : List ℕ
   after = planted index cell k
 
   small : cell < firstCell k
-  small = rw (free .comes) (walk-small store k index l q (free .passed) (free .passes))
+  small = free-small keys limit k index l q cell free
 
   fits : cellOf k fanOut ≤ length index
   fits = omega (arith, l .size, few)
@@ -311,15 +353,15 @@ module _ (store : List ℕ) (k : ℕ) (index : List ℕ) (l : Linked store k ind
   same-walk p zero on = walk-start after p ∙ sym (walk-start index p)
   same-walk p (suc d) on =
       let before = shorter index p d on in
-      rw (walk-more after p d, walk-more index p d, same-walk p d before, stays _ (walk-small store k index l p d before) (on d (omega arith)))
+      rw (walk-more after p d, walk-more index p d, same-walk p d before, stays _ (walk-small keys limit k index l p d before) (on d (omega arith)))
 
   still-passes : (p : Key) (d : ℕ) → Passes index p d → Passes after p d
   still-passes p d on e h =
       let before : Passes index p e = λ f g. on f (omega arith) in
-      rw (same-walk p e before, stays _ (walk-small store k index l p e before) (on e h)) (on e h)
+      rw (same-walk p e before, stays _ (walk-small keys limit k index l p e before) (on e h)) (on e h)
 
   still-reached : (p : Key) (d j : ℕ) → Passes index p d → getD index (walk index p d) 0 ≡ suc j → getD after (walk after p d) 0 ≡ suc j
-  still-reached p d j on e = rw (same-walk p d on, stays _ (walk-small store k index l p d on) (omega (arith, e))) e
+  still-reached p d j on e = rw (same-walk p d on, stays _ (walk-small keys limit k index l p d on) (omega (arith, e))) e
 
   -- the depth of each entry
   depths : ℕ → ℕ
@@ -365,34 +407,34 @@ module _ (store : List ℕ) (k : ℕ) (index : List ℕ) (l : Linked store k ind
           let some-entry = on d (omega arith) in
           under d i is (shorter index q d on) (omega (arith, some-entry)) (comes ∙ walk-more index q d)
 
-  heads-on : (b j : ℕ) → b < bucketCount → getD after b 0 ≡ suc j → First store depths b j
+  heads-on : (b j : ℕ) → b < bucketCount → getD after b 0 ≡ suc j → First keys depths b j
   heads-on b j h e = go (stands-in b j (omega arith) e)
     where
       here : b ≡ cell → Cell cell → (free .passed ≡ 0) × (bucketOf q ≡ b)
       here same (bucket of is) = (is, sym of ∙ sym same)
       here same (under d i is on stood place) = absurd (omega (arith, h, same, place))
 
-      go : Stands b j → First store depths b j
+      go : Stands b j → First keys depths b j
       go (old stood other) = let first = l .heads b j h stood in record { no-deeper = depth-other j other ∙ first .no-deeper; bucket = first .bucket }
       go (added same is) = let (none-passed, of) = here same cell-is in record { no-deeper = rw (is, depth-here) none-passed; bucket = rw (is, has) of }
 
   -- Entries hang below entries as before, and the new one below the last that the walk passed.
-  below-on : (i digit j : ℕ) → i < k + 1 → digit < fanOut → getD after (cellOf i digit) 0 ≡ suc j → Below store depths i digit j
+  below-on : (i digit j : ℕ) → i < k + 1 → digit < fanOut → getD after (cellOf i digit) 0 ≡ suc j → Below keys depths i digit j
   below-on i digit j h small-digit e = go (eqb i k) refl
     where
-      hangs : (i ≡ k → ⊥) → Stands (cellOf i digit) j → Below store depths i digit j
+      hangs : (i ≡ k → ⊥) → Stands (cellOf i digit) j → Below keys depths i digit j
       hangs before (old stood other) =
           let b = l .below i digit j (omega (arith, before)) small-digit stood in
           let depth = depth-other i before in
           record { deeper = depth-other j other ∙ b .deeper ∙ ap suc (sym depth); bucket = b .bucket; agree = rw depth (b .agree); next = rw depth (b .next) }
       hangs before (added same is) = under-it cell-is
         where
-          under-it : Cell cell → Below store depths i digit j
+          under-it : Cell cell → Below keys depths i digit j
           under-it (bucket of none-passed) = absurd (omega (arith, of, bucket-small q, same))
           under-it (under d i′ passed on stood place) =
               let entry : i′ ≡ i = omega (arith, same, place, small-digit, digit-small (trailOf q) d) in
               let turn : digitAt (trailOf q) d ≡ digit = omega (arith, same, place, entry) in
-              let met = walk-meets store k index l q d i on (rw entry at stood) in
+              let met = walk-meets keys limit k index l q d i on (rw entry at stood) in
               let depth : depths i ≡ d = depth-other i before ∙ met .depth in
               record {
                 deeper = rw (is, depth, depth-here) passed;
@@ -401,7 +443,7 @@ module _ (store : List ℕ) (k : ℕ) (index : List ℕ) (l : Linked store k ind
                 next = rw (is, has, depth) turn;
               }
 
-      go : (t : Bool) → eqb i k ≡ t → Below store depths i digit j
+      go : (t : Bool) → eqb i k ≡ t → Below keys depths i digit j
       go true t = absurd (let empty = planted-empty index cell k small fits digit small-digit in let z = rw (eqb-true i k t) at e in omega (arith, empty, z))
       go false t = let before = eqb-false i k t in hangs before (stands-in (cellOf i digit) j (omega (arith, h, before, small-digit)) e)
 
@@ -427,41 +469,39 @@ module _ (store : List ℕ) (k : ℕ) (index : List ℕ) (l : Linked store k ind
       go true t = rw (eqb-true j k t) last
       go false t = let other = eqb-false j k t in before j (omega arith)
 
-  differ-on : (i j : ℕ) → i < k + 1 → j < k + 1 → keyAt store i ≡ keyAt store j → i ≡ j
+  differ-on : (i j : ℕ) → i < k + 1 → j < k + 1 → keys i ≡ keys j → i ≡ j
   differ-on i j hi hj =
-      by-entry (λ i. keyAt store i ≡ keyAt store j → i ≡ j)
-      (by-entry (λ j. keyAt store k ≡ keyAt store j → k ≡ j) (λ e. refl) (λ j h e. absurd (none-has store k q new j h (sym e ∙ has))) j hj)
-      (λ i h. by-entry (λ j. keyAt store i ≡ keyAt store j → i ≡ j) (λ e. absurd (none-has store k q new i h (e ∙ has))) (λ j g. l .differ i j h g) j hj)
+      by-entry (λ i. keys i ≡ keys j → i ≡ j)
+      (by-entry (λ j. keys k ≡ keys j → k ≡ j) (λ e. refl) (λ j h e. absurd (new j h (sym e ∙ has))) j hj)
+      (λ i h. by-entry (λ j. keys i ≡ keys j → i ≡ j) (λ e. absurd (new i h (e ∙ has))) (λ j g. l .differ i j h g) j hj)
       i hi
 
-  pub linked-more : 12 * k + 12 ≤ length store → Linked store (k + 1) after
-  linked-more stands =
+  pub trie-more : Trie keys limit (k + 1) after
+  trie-more =
       record {
         size = simp length-set (emptied-length index (firstCell k) fanOut ∙ l .size);
         few = omega (arith, few);
-        stands = omega (arith, stands);
-        keyed = by-entry (λ j. Keyed (keyAt store j)) (rw has keyed) (l .keyed);
+        keyed = by-entry (λ j. Keyed (keys j)) (rw has keyed) (l .keyed);
         differ = differ-on;
         within = within-on;
         depth = depths;
-        passes = by-entry (λ j. Passes after (keyAt store j) (depths j)) (rw (has, depth-here) (still-passes q (free .passed) (free .passes)))
-            (λ j h. rw (depth-other j (λ e. omega (arith, e, h))) (still-passes (keyAt store j) (l .depth j) (l .passes j h)));
-        reached = by-entry (λ j. getD after (walk after (keyAt store j) (depths j)) 0 ≡ suc j)
+        passes = by-entry (λ j. Passes after (keys j) (depths j)) (rw (has, depth-here) (still-passes q (free .passed) (free .passes)))
+            (λ j h. rw (depth-other j (λ e. omega (arith, e, h))) (still-passes (keys j) (l .depth j) (l .passes j h)));
+        reached = by-entry (λ j. getD after (walk after (keys j) (depths j)) 0 ≡ suc j)
             (rw (has, depth-here, same-walk q (free .passed) (free .passes), ← free .comes) (planted-here index cell k small fits))
-            (λ j h. rw (depth-other j (λ e. omega (arith, e, h))) (still-reached (keyAt store j) (l .depth j) j (l .passes j h) (l .reached j h)));
+            (λ j h. rw (depth-other j (λ e. omega (arith, e, h))) (still-reached (keys j) (l .depth j) j (l .passes j h) (l .reached j h)));
         heads = heads-on;
         below = below-on;
       }
 
--- ---- No entries, and other bytes behind the entries
+-- ---- No entries, and the same keys
 
-pub linked-none : (store index : List ℕ) {index′ : List ℕ} → length index ≡ 9216 → index′ ≡ emptied index 0 bucketCount → Linked store 0 index′
-linked-none store index size e =
-    let empty : (b : ℕ) → b < bucketCount → getD (emptied index 0 bucketCount) b 0 ≡ 0 = λ b h. emptied-inside index 0 bucketCount b (omega arith) h (omega (arith, size)) in
-    rw e record {
-      size = emptied-length index 0 bucketCount ∙ size;
+pub trie-none : (keys : ℕ → Key) (limit : ℕ) (index : List ℕ) → length index ≡ firstCell limit → ((b : ℕ) → b < bucketCount → getD index b 0 ≡ 0)
+    → Trie keys limit 0 index
+trie-none keys limit index size empty =
+    record {
+      size = size;
       few = omega arith;
-      stands = omega arith;
       keyed = λ j h. absurd (omega arith);
       differ = λ i j h. absurd (omega arith);
       within = λ c h. omega (arith, empty c h);
@@ -472,15 +512,12 @@ linked-none store index size e =
       below = λ i digit j h. absurd (omega arith);
     }
 
--- The first 12 * k bytes alone matter.
-pub linked-same : (store store′ : List ℕ) (k : ℕ) → take (12 * k) store ≡ take (12 * k) store′ → (index : List ℕ) → 12 * k ≤ length store′
-    → Linked store k index → Linked store′ k index
-linked-same store store′ k e index h l =
-    let same : (j : ℕ) → j < k → keyAt store j ≡ keyAt store′ j = λ j g. key-same store store′ k j e g in
+-- The keys of the first k entries alone matter.
+pub trie-same : (keys keys′ : ℕ → Key) (limit k : ℕ) (index : List ℕ) → ((j : ℕ) → j < k → keys j ≡ keys′ j) → Trie keys limit k index → Trie keys′ limit k index
+trie-same keys keys′ limit k index same l =
     record {
       size = l .size;
       few = l .few;
-      stands = h;
       keyed = λ j g. rw (same j g) at (l .keyed j g);
       differ = λ i j f g e. l .differ i j f g (same i f ∙ e ∙ sym (same j g));
       within = l .within;

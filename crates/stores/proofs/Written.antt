@@ -19,7 +19,7 @@ use Rattle.stores.specs.Walks.{Keyed, Free, planted}
 use Rattle.stores.specs.Keys.{fieldsAt, keyIn, keyAt, findKey, fieldsFor, putAt, Linked, EntryPut}
 use Rattle.stores.proofs.Parts.{key-same}
 use Rattle.stores.proofs.Searches.{find-none, none-has}
-use Rattle.stores.proofs.Walks.{free-small, linked-same, linked-more}
+use Rattle.stores.proofs.Linked.{free-inside, linked-same, linked-more}
 
 fields-length : (f : Fields) → length (fieldBytes f) ≡ 12
 unfolding fieldBytes toBytes
@@ -68,7 +68,7 @@ attribute-byte f keyed = keyed .attribute
 module _ (store : List ℕ) (k : ℕ) (few : k < 1024) (fits : 12 * k + 12 ≤ length store) (index : List ℕ) (l : Linked store k index) (f : Fields)
     (keyed : Keyed (keyIn f)) (new : findKey store k (keyIn f) ≡ none) (cell : ℕ) (free : Free index (keyIn f) cell) where
   pub planted-cell : cell < 9216
-  planted-cell = free-small store k index l few (keyIn f) cell free
+  planted-cell = free-inside store k index l few (keyIn f) cell free
 
   abbrev put : List ℕ
   put = putAt store k (fieldBytes f)

@@ -3,9 +3,9 @@ use mathlib.Core.Bool.{Bool, true, false, _&&_, cond}
 use mathlib.Core.List.{List, [], _∷_, _++_}
 use mathlib.Core.Option.{Option, none, some}
 use mathlib.Core.Path.{_≡_}
-use Prim.Native.Nat.{ℕ, zero, suc, _+_, _*_, _<_, _≤_}
+use Prim.Native.Nat.{ℕ, zero, suc, _+_, _*_, _≤_}
 use lib.Dec.{eqb}
-use lib.ListN.{length, take, drop, getD}
+use lib.ListN.{length, take, drop}
 use Rattle.saiga.specs.Limits.{entryWidth, entryLimit}
 use Rattle.saiga.specs.Values.{Base, ofWord, toWord, typeCode}
 use Rattle.saiga.specs.declared.Value.{Value}
@@ -16,7 +16,7 @@ use Rattle.saiga.specs.Caching.{Entry}
 use Rattle.saiga.specs.declared.Fields.{Fields}
 use Rattle.saiga.specs.Store.{fieldBytes, fieldsOf, entryOf, isEntry, readEntries, checkStore}
 use Rattle.stores.specs.declared.Key.{Key}
-use Rattle.stores.specs.Walks.{bucketCount, fanOut, firstCell, cellOf, Keyed, bucketOf, trailOf, digitAt, Agree, walk, Passes, Free}
+use Rattle.stores.specs.Walks.{firstCell, Keyed, Free, Trie}
 use Rattle.stores.specs.declared.Found.{Found}
 use Rattle.stores.specs.declared.Found.the-variants.{At, Nothing}
 use Rattle.stores.specs.declared.Seen.{Seen}
@@ -58,10 +58,10 @@ abbrev pub FreeIn : List ℕ → Key → Found → Type 0
 FreeIn index q (At j) = Unit {0}
 FreeIn index q (Nothing cell) = Free index q cell
 
--- what the code sees at a cell of the index: nothing, an entry with the key, or one with another
-unfoldable pub seenIn : List ℕ → Key → ℕ → Seen
-seenIn store q zero = Empty
-seenIn store q (suc j) = cond (sameKey (keyAt store j) q) (Has j) (Other j)
+-- what the code sees at a cell of an index over these keys: nothing, an entry with the key, or one with another
+unfoldable pub seenIn : (ℕ → Key) → Key → ℕ → Seen
+seenIn keys q zero = Empty
+seenIn keys q (suc j) = cond (sameKey (keys j) q) (Has j) (Other j)
 
 -- ---- Entries
 
@@ -95,33 +95,12 @@ putAt store k bytes = take (entryWidth * k) store ++ bytes ++ drop (entryWidth *
 
 -- its buckets, and eight cells for each entry that can be kept
 abbrev pub linksSize : ℕ
-linksSize = 9216
+linksSize = firstCell entryLimit
 
--- Entry j stands in a bucket: it is one of the bucket's entries, with no other above it.
-pub record First (store : List ℕ) (depth : ℕ → ℕ) (b j : ℕ) : Type 0 where
-  pub no-deeper : depth j ≡ 0
-  pub bucket : bucketOf (keyAt store j) ≡ b
-
--- Entry j stands in the cell of entry i for a digit: in its bucket, deeper by one, with the digits that lead to i, and then this one.
-pub record Below (store : List ℕ) (depth : ℕ → ℕ) (i digit j : ℕ) : Type 0 where
-  pub deeper : depth j ≡ suc (depth i)
-  pub bucket : bucketOf (keyAt store j) ≡ bucketOf (keyAt store i)
-  pub agree : Agree (trailOf (keyAt store j)) (trailOf (keyAt store i)) (depth i)
-  pub next : digitAt (trailOf (keyAt store j)) (depth i) ≡ digit
-
--- The index has the first k entries: their keys differ, and the walk of its key comes to each of them, at its depth.
+-- The index has the first k entries.
 pub record Linked (store : List ℕ) (k : ℕ) (index : List ℕ) : Type 0 where
-  pub size : length index ≡ linksSize
-  pub few : k ≤ entryLimit
   pub stands : entryWidth * k ≤ length store
-  pub keyed : (j : ℕ) → j < k → Keyed (keyAt store j)
-  pub differ : (i j : ℕ) → i < k → j < k → keyAt store i ≡ keyAt store j → i ≡ j
-  pub within : (c : ℕ) → c < firstCell k → getD index c 0 ≤ k
-  pub depth : ℕ → ℕ
-  pub passes : (j : ℕ) → j < k → Passes index (keyAt store j) (depth j)
-  pub reached : (j : ℕ) → j < k → getD index (walk index (keyAt store j) (depth j)) 0 ≡ suc j
-  pub heads : (b j : ℕ) → b < bucketCount → getD index b 0 ≡ suc j → First store depth b j
-  pub below : (i digit j : ℕ) → i < k → digit < fanOut → getD index (cellOf i digit) 0 ≡ suc j → Below store depth i digit j
+  pub trie : Trie (keyAt store) entryLimit k index
 
 -- ---- The check
 

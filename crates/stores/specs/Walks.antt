@@ -1,8 +1,9 @@
--- The index of a store as a graph of cells: which way the walk of a key takes through it, by the digits of the key.
+-- An index over keys as a graph of cells: which way the walk of a key takes through it, by the digits of the key.
 use mathlib.Core.List.{List}
 use mathlib.Core.Path.{_≡_}
-use Prim.Native.Nat.{ℕ, zero, suc, _+_, _*_, _-_, _/_, _%_, _<_}
-use lib.ListN.{getD, set}
+use Prim.Native.Nat.{ℕ, zero, suc, _+_, _*_, _-_, _/_, _%_, _≤_, _<_}
+use lib.ListN.{length, getD, set}
+use Rattle.saiga.specs.Limits.{entryLimit}
 use Rattle.saiga.specs.Values.{wordLimit}
 use Rattle.values.specs.Cells.{emptied}
 use Rattle.stores.specs.declared.Key.{Key}
@@ -78,6 +79,41 @@ pub record Free (index : List ℕ) (q : Key) (cell : ℕ) : Type 0 where
   pub passes : Passes index q passed
   pub comes : cell ≡ walk index q passed
   pub empty : getD index cell 0 ≡ 0
+
+-- ---- The index of keys
+
+-- Entry j stands in a bucket: it is one of the bucket's entries, with no other above it.
+pub record First (keys : ℕ → Key) (depth : ℕ → ℕ) (b j : ℕ) : Type 0 where
+  pub no-deeper : depth j ≡ 0
+  pub bucket : bucketOf (keys j) ≡ b
+
+-- Entry j stands in the cell of entry i for a digit: in its bucket, deeper by one, with the digits that lead to i, and then this one.
+pub record Below (keys : ℕ → Key) (depth : ℕ → ℕ) (i digit j : ℕ) : Type 0 where
+  pub deeper : depth j ≡ suc (depth i)
+  pub bucket : bucketOf (keys j) ≡ bucketOf (keys i)
+  pub agree : Agree (trailOf (keys j)) (trailOf (keys i)) (depth i)
+  pub next : digitAt (trailOf (keys j)) (depth i) ≡ digit
+
+-- The index, with cells for `limit` entries, has the first k: their keys differ, and the walk of its key comes to each of them, at its depth.
+pub record Trie (keys : ℕ → Key) (limit k : ℕ) (index : List ℕ) : Type 0 where
+  pub size : length index ≡ firstCell limit
+  pub few : k ≤ limit
+  pub keyed : (j : ℕ) → j < k → Keyed (keys j)
+  pub differ : (i j : ℕ) → i < k → j < k → keys i ≡ keys j → i ≡ j
+  pub within : (c : ℕ) → c < firstCell k → getD index c 0 ≤ k
+  pub depth : ℕ → ℕ
+  pub passes : (j : ℕ) → j < k → Passes index (keys j) (depth j)
+  pub reached : (j : ℕ) → j < k → getD index (walk index (keys j) (depth j)) 0 ≡ suc j
+  pub heads : (b j : ℕ) → b < bucketCount → getD index b 0 ≡ suc j → First keys depth b j
+  pub below : (i digit j : ℕ) → i < k → digit < fanOut → getD index (cellOf i digit) 0 ≡ suc j → Below keys depth i digit j
+
+-- an index of entries of which none has a key
+pub record Without (index : List ℕ) (q : Key) : Type 0 where
+  pub keys : ℕ → Key
+  pub count : ℕ
+  pub trie : Trie keys entryLimit count index
+  pub keyed : Keyed q
+  pub none-has : (j : ℕ) → j < count → keys j ≡ q → ⊥
 
 -- ---- Writing cells
 

@@ -13,7 +13,7 @@ ghost use Rattle.values.specs.Layout.{attributesIn};
 ghost use Rattle.saiga.specs.Limits.{entryWidth, entryLimit};
 ghost use Rattle.saiga.specs.Sheet.{Sheet, nodeCount};
 ghost use Rattle.saiga.specs.Store.{fieldBytes, isEntry};
-ghost use Rattle.stores.specs.Walks.{bucketCount, fanOut, firstCell, cellOf, bucketOf, trailOf, Keyed, Free, planted};
+ghost use Rattle.stores.specs.Walks.{bucketCount, fanOut, firstCell, cellOf, bucketOf, trailOf, Keyed, Free, Without, planted};
 ghost use Rattle.stores.specs.declared.Seen.the-variants.{Other};
 ghost use Rattle.stores.specs.Keys.{linksSize, sameKey, fieldsAt, keyIn, keyAt, findKey, seenIn, foundOf, FreeIn, valueWord, fieldsFor, putAt, Linked, EntryTested, StoreChecked, EntryPut};
 
@@ -26,16 +26,16 @@ pub struct Key {
 
 // The index: its buckets, and behind them eight cells for each entry that can be kept, one for each digit in base 8. A cell holds the number of
 // an entry and one, or 0.
-const BUCKETS: usize = 1024;
+pub const BUCKETS: usize = 1024;
 
-const FAN_OUT: usize = 8;
+pub const FAN_OUT: usize = 8;
 
 pub const LINKS_SIZE: usize = BUCKETS + FAN_OUT * ENTRY_LIMIT;
 
 // The digits of a trail, which lead through the index.
-const KEY_DIGITS: usize = 16;
+pub const KEY_DIGITS: usize = 16;
 
-const BASE: u64 = FAN_OUT as u64;
+pub const BASE: u64 = FAN_OUT as u64;
 
 // How much an attribute and a parameter turn the buckets of the nodes round.
 const ATTRIBUTE_TURN: u64 = 2246822519;
@@ -56,7 +56,7 @@ pub enum Found {
 }
 
 // What is seen at a cell of the index by one who looks for a key: nothing, an entry with the key, or one with another.
-enum Seen {
+pub enum Seen {
     Empty,
     Has(usize),
     Other(usize),
@@ -114,7 +114,7 @@ fn key_in(e: Fields) -> Key
 }
 
 // The bucket of a key.
-fn bucket(key: Key) -> usize
+pub fn bucket(key: Key) -> usize
     requires { ⌜ Keyed key ⌝ }
     ensures { λ r. ⌜ (r ≡ bucketOf key) × (r < bucketCount) ⌝ }
 {
@@ -123,7 +123,7 @@ fn bucket(key: Key) -> usize
 }
 
 // The trail of a key: what its bucket does not tell.
-fn trail(key: Key) -> u64
+pub fn trail(key: Key) -> u64
     requires { ⌜ Keyed key ⌝ }
     ensures { λ r. ⌜ r ≡ trailOf key ⌝ }
 {
@@ -156,19 +156,27 @@ fn first_cell(j: usize) -> usize
 }
 
 // The cell of entry j for the lowest digit of what is left of a key.
-fn cell_below(j: usize, rest: u64) -> usize
+pub fn cell_below(j: usize, rest: u64) -> usize
     requires { ⌜ j < entryLimit ⌝ }
     ensures { λ r. ⌜ r ≡ cellOf j (rest % fanOut) ⌝ }
 {
     first_cell(j) + (rest % BASE) as usize
 }
 
+// What a cell of the index holds.
+fn held(index: &[u16], cell: usize) -> usize
+    requires { ⌜ cell < length (now index) ⌝ }
+    ensures { λ r. ⌜ r ≡ getD (now (index .entry)) cell 0 ⌝ }
+{
+    index[cell] as usize
+}
+
 // What stands at a cell of the index.
 fn look(store: &[u8], index: &[u16], cell: usize, key: Key) -> Seen
     requires { ⌜ (cell < length (now index)) × (entryWidth * getD (now index) cell 0 ≤ length (now store)) ⌝ }
-    ensures { λ r. ⌜ r ≡ seenIn (now (store .entry)) key (getD (now (index .entry)) cell 0) ⌝ }
+    ensures { λ r. ⌜ r ≡ seenIn (keyAt (now (store .entry))) key (getD (now (index .entry)) cell 0) ⌝ }
 {
-    let i = index[cell] as usize;
+    let i = held(index, cell);
     if i == 0 {
         return Seen::Empty;
     }
@@ -183,7 +191,7 @@ fn look(store: &[u8], index: &[u16], cell: usize, key: Key) -> Seen
 // The entry with a key, below the first of its bucket, which has another. The loop sees 16 entries at most, one for each digit of the trail.
 fn find_below(store: &[u8], kept: usize, index: &[u16], key: Key, first: usize) -> Found
     requires { ⌜ Linked (now store) kept (now index) × Keyed key ⌝ }
-    requires { ⌜ seenIn (now store) key (getD (now index) (bucketOf key) 0) ≡ Other first ⌝ }
+    requires { ⌜ seenIn (keyAt (now store)) key (getD (now index) (bucketOf key) 0) ≡ Other first ⌝ }
     ensures { λ r. ⌜ foundOf r ≡ findKey (now (store .entry)) kept key ⌝ }
     ensures { λ r. ⌜ FreeIn (now (index .entry)) key r ⌝ }
 {
@@ -222,6 +230,41 @@ pub fn find(store: &[u8], kept: usize, index: &[u16], key: Key) -> Found
         Seen::Has(j) => Found::At(j),
         Seen::Other(j) => find_below(store, kept, index, key, j),
     }
+}
+
+// The free cell for a key below the first entry of its bucket. The loop passes 16 entries at most, as in `find_below`.
+fn free_below(index: &[u16], key: Key, first: usize) -> usize
+    requires { ⌜ Without (now index) key × (getD (now index) (bucketOf key) 0 ≡ first + 1) ⌝ }
+    ensures { λ r. ⌜ Free (now (index .entry)) key r ⌝ }
+{
+    let whole = trail(key);
+    let mut cell = cell_below(first, whole);
+    let mut rest = whole / BASE;
+    let mut passed = 1;
+    while passed <= KEY_DIGITS {
+        let i = held(index, cell);
+        if i == 0 {
+            return cell;
+        }
+        cell = cell_below(i - 1, rest);
+        rest = rest / BASE;
+        passed += 1;
+    }
+    // As in `find_below`, this is never reached.
+    cell
+}
+
+// The free cell for a key that no entry has. No entry is looked at.
+pub fn free_cell(index: &[u16], key: Key) -> usize
+    requires { ⌜ Without (now index) key ⌝ }
+    ensures { λ r. ⌜ Free (now (index .entry)) key r ⌝ }
+{
+    let b = bucket(key);
+    let i = held(index, b);
+    if i == 0 {
+        return b;
+    }
+    free_below(index, key, i - 1)
 }
 
 // Entry `kept` is put into a free cell of the index, and its own cells are emptied.

@@ -6,6 +6,7 @@ use lib.IntN.{ℤ, _+ℤ_, _-ℤ_}
 use lib.Signed.{mag, leZ}
 use mir.Syntax.{w32, w64}
 use mir.Val.{SFits, ofZ, toZ}
+use mir.Facts.{toZ-ofZ}
 use Rattle.saiga.specs.Values.{number, nodeOf, exact, summed, applyHolding}
 use Rattle.saiga.specs.declared.Sum.{Sum}
 use Rattle.saiga.specs.declared.Sum.the-variants.{Fits as fits, Overflow as beyond}
@@ -40,12 +41,12 @@ pub when-beyond : {sum : Sum} → sum ≡ beyond → overflows ≡ summed sum
 unfolding summed
 when-beyond is = rw is
 
-pub when-fits : {sum : Sum} (w : ℤ) {z : ℤ} → sum ≡ exact w → mag z < 2 ^ 63 → sum ≡ fits z → gives (int (toZ w32 (ofZ w32 (toZ w64 (ofZ w64 z))))) ≡ summed sum
-unfolding summed
-when-fits w {z} e small is = rw (is, read-back w64 z small, read-back w32 z (told-fits w z (sym e ∙ is) .sfits))
-
 pub fits-int : (sum : Sum) (w z : ℤ) → sum ≡ exact w → sum ≡ fits z → mag z < 2 ^ 63 → SFits w32 (toZ w64 (ofZ w64 z))
 fits-int sum w z e is small = rw (read-back w64 z small) (told-fits w z (sym e ∙ is))
+
+pub when-fits : {sum : Sum} (w : ℤ) {z : ℤ} → sum ≡ exact w → mag z < 2 ^ 63 → sum ≡ fits z → gives (int (toZ w32 (ofZ w32 (toZ w64 (ofZ w64 z))))) ≡ summed sum
+unfolding summed
+when-fits {sum} w {z} e small is = rw (is, toZ-ofZ (fits-int sum w z e is small), read-back w64 z small)
 
 -- The one that holds a Node.
 pub node-answers : (h : Holding) (x : Value) (y n : ℕ) → h ≡ equalNodeOf y → n ≡ nodeOf x → gives (bool (eqb y n)) ≡ applyHolding h x

@@ -1,6 +1,6 @@
 -- Facts on integers that the code's sums, differences, tests and casts ask for. `mag z` is n both for n and for -(n + 1), and an
 -- Int is an integer with `mag` below 2^31.
-use mathlib.Core.Bool.{Bool, true, false, cond, _||_, true≢false}
+use mathlib.Core.Bool.{Bool, true, false, cond, true≢false}
 use mathlib.Core.Path.{_≡_, refl, sym, ap, ap₂, _∙_}
 use Prim.Native.Nat.{ℕ, zero, suc, _+_, _-_, _^_, _≤_, _<_}
 use native.Mathlib.Nat.{not-suc-le-zero}
@@ -11,9 +11,10 @@ use lib.Signed.{mag, ltZ}
 use mir.Syntax.{Width, w32, w64}
 use mir.Val.{SFits, hbits, ofZ, toZ}
 use mir.Facts.{toZ-ofZ}
-use borrow.Author.Tests.{ltb-true, ltb-false, eqb-true, eqb-false, eq-eqb, ne-eqb, le-ltb}
+use borrow.Author.Tests.{ltb-true, eqb-true, eqb-false, eq-eqb, ne-eqb, le-ltb}
 use Rattle.saiga.specs.Values.{lowest, highest, exact, equalZ, unsigned}
 use Rattle.saiga.specs.declared.Sum.the-variants.{Fits, Overflow as beyond}
+use Rattle.saiga.proofs.FourBytes.{exact-mag}
 
 -- ---- Bits
 
@@ -88,20 +89,9 @@ module _ (w : Width) (z : ℤ) (fits : SFits w z) where
 
 -- ---- Tests
 
--- What lies between the two ends of Int is an Int.
-within-fits : (z : ℤ) → ltZ z lowest ≡ false → ltZ highest z ≡ false → SFits w32 z
-within-fits (pos n) p q = record { sfits = omega (arith, ltb-false 2147483647 n q) }
-within-fits (negsuc n) p q = record { sfits = omega (arith, ltb-false 2147483647 n p) }
-
 -- What is told to fit is an Int.
 pub told-fits : (w z : ℤ) → exact w ≡ Fits z → SFits w32 z
-unfolding exact
-told-fits w z = go (ltZ w lowest) refl (ltZ highest w) refl
-  where
-    go : (a : Bool) → ltZ w lowest ≡ a → (b : Bool) → ltZ highest w ≡ b → cond (a || b) beyond (Fits w) ≡ Fits z → SFits w32 z
-    go true l b h e = absurd (let z : _≡_ {A = ℕ} 0 1 = cc in omega arith)
-    go false l true h e = absurd (let z : _≡_ {A = ℕ} 0 1 = cc in omega arith)
-    go false l false h e = let same : w ≡ z = cc in rw same at (within-fits w l h)
+told-fits w z e = record { sfits = exact-mag w z e }
 
 -- The tests of the bits of z say beyond which end it lies, if beyond any.
 module _ (z : ℤ) (fits : SFits w64 z) where

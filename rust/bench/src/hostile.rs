@@ -1,21 +1,18 @@
-//! Inputs that a hostile owner would choose, made in code and without chance: keys that collide in the store's index, branches that are
-//! passed over, deep nesting, wide fan-out, and a full store without what is asked.
+//! Inputs that a hostile owner would choose, made in code and without chance: keys that collide in the store's index, open forms that do so, branches
+//! that are passed over, deep nesting, wide fan-out, and a full store without what is asked.
+
+use std::mem;
 
 use trials::collide::{of_one_bucket, Key, ATTRIBUTES, LONGEST_PATH};
 use trials::write::*;
 
-use crate::inputs::{empty, hops};
+use crate::inputs::{empty, hops, nested};
 use crate::programs::Input;
 
-/// How many attributes one inside the other a rule has room for.
-const NESTED: usize = 84;
+/// How many kinds there are.
+const KINDS: usize = 16;
 
-/// Attribute k of this node, of that attribute of the parameter, and so on, `NESTED` times.
-fn nested(k: u8) -> Vec<u8> {
-    (0..NESTED).fold(PARAMETER.to_vec(), |inner, _| of(&THIS, k, &inner))
-}
-
-/// The last attributes of a sheet, with their rules for nodes of kind 0: each is the one before it `NESTED` times.
+/// The last attributes of a sheet, with their rules for nodes of kind 0: each is the one before it, `NESTED` times.
 fn nests(first: u8, last: u8) -> Vec<u8> {
     (first..=last)
         .flat_map(|k| rule(0, k, &nested(k - 1)))
@@ -118,6 +115,66 @@ pub fn spread() -> Input {
     look_ups(&keys, 511)
 }
 
+/// 61 keys of one bucket, those of the longest path first, but for the one at its end. Each has a node of its own, and comes with the kind of that:
+/// no two of a kind have one attribute.
+fn open_keys() -> Vec<(Key, u8)> {
+    const OPEN: usize = 61;
+    let mut open: Vec<(Key, u8)> = Vec::new();
+    for key in path().1 {
+        let others = || open.iter().map(|(other, _)| other);
+        let kind = 1 + others()
+            .filter(|other| other.attribute == key.attribute)
+            .count();
+        // The key at the end is of node 0.
+        if key.node != 0 && kind < KINDS && others().all(|other| other.node != key.node) {
+            open.push((key, kind as u8));
+        }
+    }
+    open.truncate(OPEN);
+    open
+}
+
+/// Open forms of keys of one bucket, and inside them the look-ups of the one key that their longest path lacks. The rule of each key asks for the next
+/// one, and that of the last for attribute 17 of node 0: it is attribute 16, 84 times, and that is what is looked up, 84 times, with 63 forms around
+/// it. The question descends 18 times, with capacity 0: 129,670 steps.
+pub fn open_in_one_bucket() -> Input {
+    const LAST: u8 = ATTRIBUTES + 1;
+    let (sought, _) = path();
+    let mut kinds = [0; 1_024];
+    let mut rules = vec![vec![int(1); usize::from(LAST) + 1]; KINDS];
+    rules[0][0] = PARAMETER.to_vec();
+    rules[0][usize::from(ATTRIBUTES)] = nested(0);
+    rules[0][usize::from(LAST)] = nested(ATTRIBUTES);
+    // From the inside out.
+    let mut inner = of(&node_literal(0), LAST, &int(sought as i32));
+    for (key, kind) in open_keys().into_iter().rev() {
+        kinds[usize::from(key.node)] = kind;
+        let outer = of(
+            &node_literal(key.node),
+            key.attribute,
+            &int(key.word as i32),
+        );
+        let rule = &mut rules[usize::from(kind)][usize::from(key.attribute)];
+        *rule = mem::replace(&mut inner, outer);
+    }
+    let of_kind = |(kind, rules): (u8, &Vec<Vec<u8>>)| {
+        let rules = (0..).zip(rules);
+        let commands = rules.flat_map(move |(attribute, expr)| rule(kind, attribute, expr));
+        commands.collect::<Vec<u8>>()
+    };
+    let sheet = [
+        attribute(INT_TYPE, INT_TYPE).repeat(usize::from(LAST) + 1),
+        kinds.into_iter().flat_map(node).collect(),
+        (0..).zip(&rules).flat_map(of_kind).collect(),
+        end(),
+    ];
+    Input {
+        sheet: sheet.concat(),
+        question: sum((0..18).map(|_| inner.clone())),
+        ..Input::default()
+    }
+}
+
 /// A Bool expression of heads of one byte, IF and the parameter, of a length that is 1 and a multiple of 3. Conditions, first and second
 /// branches are nested by turns.
 fn one_byte_heads(length: usize) -> Vec<u8> {
@@ -214,6 +271,7 @@ mod tests {
     use super::*;
     use crate::programs::{counts, places};
     use sofretu_sys::Place;
+    use trials::collide::depths;
 
     #[test]
     fn the_counts_are_as_said() {
@@ -226,6 +284,7 @@ mod tests {
         assert_eq!(counts(&deepest_nesting()), (108_799, 0));
         assert_eq!(counts(&widest_fan_out()), (949_754, 0));
         assert_eq!(counts(&full_store()), (917_501, 1_021));
+        assert_eq!(counts(&open_in_one_bucket()), (129_670, 0));
         assert_eq!(most_pairs().sheet.len(), 2_337);
     }
 
@@ -259,6 +318,20 @@ mod tests {
         input.store.extend(entry(0, 0, INT_TYPE, sought as i32, 0));
         input.kept += 1;
         assert_eq!(depths_in_one_bucket(&input).last(), Some(&LONGEST_PATH));
+    }
+
+    #[test]
+    fn what_is_looked_up_inside_open_forms_lies_behind_the_longest_path() {
+        let (sought, _) = path();
+        let mut keys: Vec<Key> = open_keys().into_iter().map(|(key, _)| key).collect();
+        assert_eq!(keys.len(), 61);
+        keys.push(Key {
+            node: 0,
+            attribute: 0,
+            word: sought,
+        });
+        assert!(keys.iter().all(|key| key.bucket() == keys[0].bucket()));
+        assert_eq!(depths(&keys).last(), Some(&LONGEST_PATH));
     }
 
     #[test]

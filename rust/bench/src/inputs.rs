@@ -181,6 +181,61 @@ pub fn parameterised() -> Input {
     }
 }
 
+/// Attribute 0 of p is 1 up to 1, and else that of p - 1: that of 64 opens 64 forms, all of one node and attribute. The question is the sum of 16 nodes'
+/// with parameter 64: 6,142 steps, which keep 1,024 figures.
+pub fn deep_parameters() -> Input {
+    const NODES: u16 = 16;
+    let less = of(&THIS, 0, &binary(SUBTRACT, &PARAMETER, &int(1)));
+    let down = if_else(&binary(LE, &PARAMETER, &int(1)), &int(1), &less);
+    let sheet = [
+        attribute(INT_TYPE, INT_TYPE),
+        node(0).repeat(NODES.into()),
+        rule(0, 0, &down),
+        end(),
+    ];
+    Input {
+        sheet: sheet.concat(),
+        question: sum((0..NODES).map(|number| of(&node_literal(number), 0, &int(64)))),
+        store: empty(1_024),
+        ..Input::default()
+    }
+}
+
+/// How many attributes one inside the other a rule has room for.
+pub const NESTED: usize = 84;
+
+/// Attribute k of this node, of that attribute of the parameter, and so on, `NESTED` times.
+pub fn nested(k: u8) -> Vec<u8> {
+    (0..NESTED).fold(PARAMETER.to_vec(), |inner, _| of(&THIS, k, &inner))
+}
+
+/// Attribute 0 of p goes down to 1, a form for each, and is attribute 3 there, which is attribute 2 of itself 84 times, and that attribute 1, a rule, 84
+/// times. From 61 on, all look-ups of attribute 1 but a few have 63 forms around them. The question is the sum of 18 nodes' with capacity 0: 135,124
+/// steps.
+pub fn inside_63() -> Input {
+    const NODES: u16 = 18;
+    let less = of(&THIS, 0, &binary(SUBTRACT, &PARAMETER, &int(1)));
+    let inside = of(&THIS, 3, &PARAMETER);
+    let sheet = [
+        attribute(INT_TYPE, INT_TYPE).repeat(4),
+        node(0).repeat(NODES.into()),
+        rule(
+            0,
+            0,
+            &if_else(&binary(LE, &PARAMETER, &int(1)), &inside, &less),
+        ),
+        rule(0, 1, &PARAMETER),
+        rule(0, 2, &nested(1)),
+        rule(0, 3, &nested(2)),
+        end(),
+    ];
+    Input {
+        sheet: sheet.concat(),
+        question: sum((0..NODES).map(|number| of(&node_literal(number), 0, &int(61)))),
+        ..Input::default()
+    }
+}
+
 /// A sheet of exactly `size` bytes, whose parts grow together: a node for every 64 bytes, each with 4 figures, a kind for
 /// every 4 KiB or part of it, each with 12 rules in the bytes left. A figure is asked that is kept, in a store of as many
 /// entries as there are nodes.
@@ -254,6 +309,8 @@ mod tests {
         assert_eq!(counts(&branches()), (882_772, 0));
         assert_eq!(counts(&signs()), (986_560, 0));
         assert_eq!(counts(&parameterised()), (7_882, 738));
+        assert_eq!(counts(&deep_parameters()), (6_142, 1_024));
+        assert_eq!(counts(&inside_63()), (135_124, 0));
         assert_eq!(counts(&sized(1_024)), (1, 16));
         assert_eq!(counts(&sized(16_384)), (1, 256));
         assert_eq!(counts(&sized(65_536)), (1, 1_024));

@@ -16,6 +16,7 @@ pub enum Per {
 const DEEP: &str = "Step: deep chains";
 const DENSE: &str = "Step: AttrApp-dense, a store of 1,024 fills";
 const NO_STORE: &str = "Step: capacity 0";
+const INSIDE_63: &str = "Step: capacity 0, inside 63 forms";
 const CHOICES: &str = "Step: IF- and application-dense";
 const FULL_CHECK: &str = "Store check, 1,024 entries";
 const SMALL_SHEET: &str = "Sheet check, a byte of 1 KiB";
@@ -74,6 +75,13 @@ pub fn ordinary(left: impl Fn(&Input) -> Input) -> Vec<Row> {
             Step,
             inputs::parameterised(),
         ),
+        row(
+            "Step: parameterised, 64 forms deep",
+            Question,
+            Step,
+            inputs::deep_parameters(),
+        ),
+        row(INSIDE_63, Question, Step, inputs::inside_63()),
         row(
             "One kept figure, sheet and store checked",
             Kept,
@@ -139,6 +147,11 @@ pub fn hostile() -> Vec<(Row, &'static str)> {
             "Step: a full store that misses",
             hostile::full_store(),
             DENSE,
+        ),
+        step(
+            "Step: inside 63 forms, 61 of one bucket",
+            hostile::open_in_one_bucket(),
+            INSIDE_63,
         ),
         step(
             "Step: the widest branch, second of its IF",

@@ -40,6 +40,9 @@ pub enum Stop {
     Depth = 16,
     /// A sum or difference was due that lies outside Int. The owner can mend it, whose rule adds or subtracts beyond one of Int's ends.
     Overflow = 17,
+    /// An attribute that is not kept was due inside itself: the same one of the same node with the same parameter. The owner can mend it, whose
+    /// equation needs its own value. A larger budget does not help.
+    Circle = 20,
 }
 
 /// Who causes a stop.
@@ -51,13 +54,13 @@ pub enum Origin {
     Lender,
     /// Who puts the question: stops 11 to 13.
     Asker,
-    /// The run itself: stops 14 to 17.
+    /// The run itself: stops 14 to 17 and 20.
     Run,
 }
 
 impl Stop {
     /// The stops in the order of their numbers.
-    pub const ALL: [Stop; 17] = [
+    pub const ALL: [Stop; 18] = [
         Stop::SheetLength,
         Stop::Command,
         Stop::TooMany,
@@ -75,15 +78,16 @@ impl Stop {
         Stop::Spent,
         Stop::Depth,
         Stop::Overflow,
+        Stop::Circle,
     ];
 
-    /// The stop with a number from 1 to 17.
+    /// The stop with a number: 1 to 17 and 20 have one.
     pub fn from_number(number: u32) -> Option<Stop> {
-        let place = usize::try_from(number).ok()?.checked_sub(1)?;
-        Stop::ALL.get(place).copied()
+        let place = Stop::ALL.binary_search_by_key(&number, |stop| stop.number());
+        place.ok().map(|place| Stop::ALL[place])
     }
 
-    /// Its number, 1 to 17.
+    /// Its number, 1 to 17 or 20.
     pub fn number(self) -> u32 {
         self as u32
     }
@@ -130,6 +134,7 @@ impl fmt::Display for Stop {
             Stop::Spent => "the budget is spent",
             Stop::Depth => "an attribute that is not kept was due inside 64 open ones",
             Stop::Overflow => "a sum or difference was due that lies outside Int",
+            Stop::Circle => "an attribute was due inside itself, and so needs its own value",
         })
     }
 }
@@ -184,11 +189,12 @@ mod tests {
 
     #[test]
     fn stops_are_in_the_order_of_their_numbers() {
-        for (place, stop) in Stop::ALL.iter().enumerate() {
-            assert_eq!(stop.number() as usize, place + 1);
-            assert_eq!(Stop::from_number(stop.number()), Some(*stop));
+        let numbers = Stop::ALL.iter().map(|stop| stop.number());
+        assert!(numbers.eq((1..=17).chain([20])));
+        for stop in Stop::ALL {
+            assert_eq!(Stop::from_number(stop.number()), Some(stop));
         }
-        for number in [0, 18, u32::MAX] {
+        for number in [0, 18, 19, 21, u32::MAX] {
             assert_eq!(Stop::from_number(number), None);
         }
     }
@@ -198,7 +204,7 @@ mod tests {
         let mut words: Vec<String> = Stop::ALL.iter().map(Stop::to_string).collect();
         words.sort();
         words.dedup();
-        assert_eq!(words.len(), 17);
+        assert_eq!(words.len(), 18);
     }
 
     #[test]
@@ -210,7 +216,7 @@ mod tests {
         assert!(with(Origin::Author).eq(1..=8));
         assert!(with(Origin::Lender).eq(9..=10));
         assert!(with(Origin::Asker).eq(11..=13));
-        assert!(with(Origin::Run).eq(14..=17));
+        assert!(with(Origin::Run).eq((14..=17).chain([20])));
     }
 
     #[test]

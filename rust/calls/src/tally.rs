@@ -17,7 +17,7 @@ pub type Rows = [u64; TALLY_ROWS];
 /// Where the counted steps of an answer went.
 ///
 /// Each counted step is in one row: that of its attribute, that of the applications or that of the conditions. So the rows of an answer add up to
-/// its steps. Stops 14 to 17 bring the steps before the stop, stops 1 to 13 none.
+/// its steps. Stops 14 to 17 and 20 bring the steps before the stop, stops 1 to 13 none.
 ///
 /// ```
 /// # use calls::Tally;

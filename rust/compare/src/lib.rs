@@ -5,7 +5,7 @@
 use sofretu::{Refusal, Scratch, Session, Sheet, Store, MOST_STEPS};
 use trials::compare::{compare_check, Counts};
 use trials::engine::ask_each;
-use trials::write::{entry, INT_TYPE};
+use trials::write::*;
 use trials::{Answer, Ask, Call, Case, Engine};
 
 /// The library's ways to put a question, each an engine.
@@ -110,33 +110,33 @@ impl Engine for Lent {
 }
 
 /// A call that writes every part of its scratch: the most attributes and nodes, figures and rules for all of them, a full store, and
-/// an attribute that is defined as itself, which opens as many forms as can be.
+/// an attribute that is itself with one more, which opens as many forms as can be.
 fn filling() -> Case {
     const ATTRIBUTES: u8 = 32;
     const NODES: u16 = 1_024;
     const WITH_FIGURES: u8 = 6;
-    let mut sheet = Vec::new();
-    for _ in 0..ATTRIBUTES {
-        sheet.extend([0x41, 2, 0]);
-    }
-    for node in 0..NODES {
-        sheet.extend([0x4E, (node % 16) as u8]);
+    const LAST: u8 = ATTRIBUTES - 1;
+    let mut sheet = attribute(INT_TYPE, UNIT_TYPE).repeat(LAST.into());
+    sheet.extend(attribute(INT_TYPE, INT_TYPE));
+    for number in 0..NODES {
+        sheet.extend(node((number % 16) as u8));
     }
     let mut store = Vec::new();
-    for node in 0..NODES {
-        let [low, high] = node.to_le_bytes();
+    for number in 0..NODES {
         for attribute in 0..WITH_FIGURES {
-            sheet.extend([0x56, low, high, attribute, 1, 0, 0, 0]);
+            sheet.extend(figure(number, attribute, 1));
         }
-        store.extend(entry(node, 0, INT_TYPE, 0, 1));
+        store.extend(entry(number, 0, INT_TYPE, 0, 1));
     }
+    let deeper = of(&THIS, LAST, &binary(ADD, &PARAMETER, &int(1)));
     for kind in 0..16 {
-        for attribute in WITH_FIGURES..ATTRIBUTES {
-            sheet.extend([0x52, kind, attribute, 4, 0, 0x22, attribute, 0x30, 0x10]);
+        for attribute in WITH_FIGURES..LAST {
+            sheet.extend(rule(kind, attribute, &of(&THIS, attribute, &UNIT)));
         }
+        sheet.extend(rule(kind, LAST, &deeper));
     }
-    sheet.push(0x5A);
-    let question = vec![0x22, ATTRIBUTES - 1, 0x13, 0, 0, 0x10];
+    sheet.extend(end());
+    let question = of(&node_literal(0), LAST, &int(0));
     Case {
         sheet,
         store,
@@ -197,6 +197,7 @@ mod tests {
     fn the_call_that_fills_scratch_is_accepted_and_goes_deep() {
         let listed = filling().answered(&mut trials::Oracle::default());
         let answer = listed.answers[0];
-        assert_eq!((answer.number, answer.steps, answer.kept), (16, 64, 1_024));
+        assert_eq!((answer.number, answer.kept), (16, 1_024));
+        assert_eq!(answer.steps, 3 * 64);
     }
 }

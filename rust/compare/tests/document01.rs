@@ -1,5 +1,7 @@
 //! The cases of documents 01 and 02, which `rust/trials` puts to the second evaluator, put to the library.
 
+#[path = "../../trials/tests/document01/circles.rs"]
+mod circles;
 #[path = "../../trials/tests/document01/common.rs"]
 mod common;
 #[path = "../../trials/tests/document01/depth.rs"]

@@ -1,4 +1,4 @@
-//! Document 01, "The steps", and stops 14 to 16 of "Stops by origin"; document 02, F-2, F-4 and F-8.
+//! Document 01, "The steps", and stops 14 to 16 of "Stops by origin"; document 02, F-2, F-4, F-8 and F-9.
 //!
 //! A recursive evaluator over the expression tree: "left part before right part, IF by condition only". A call of `evaluate` inside that of
 //! a definition is what lies inside the form n.a(v) := e.
@@ -29,7 +29,8 @@ struct Run<'a, 's> {
     budget: u64,
     steps: u64,
     tally: Tally,
-    open: usize,
+    /// "An occurrence (n, a, v) is open while its form stands around the part being stepped": these, from the outside in.
+    open: Vec<Occurrence>,
 }
 
 /// What a run brings: the value or the stop, the steps counted, and their tally.
@@ -39,7 +40,8 @@ pub struct Outcome {
     pub tally: Tally,
 }
 
-/// Evaluates an accepted question. "Stops 14 to 16 bring the tally so far", and so does 17, which "leaves store and tally as 14 does".
+/// Evaluates an accepted question. "Stops 14 to 16 bring the tally so far", and so do 17 and 20, each of which "leaves store and tally as 14
+/// does".
 pub fn evaluate(sheet: &Sheet, store: &mut Store, question: &Expr, budget: u64) -> Outcome {
     let levels = question.depth() + MOST_OPEN * (1 + sheet.deepest_rule());
     let mut run = Run {
@@ -48,7 +50,7 @@ pub fn evaluate(sheet: &Sheet, store: &mut Store, question: &Expr, budget: u64) 
         budget,
         steps: 0,
         tally: ZEROS,
-        open: 0,
+        open: Vec::with_capacity(MOST_OPEN),
     };
     let ending = if levels <= SHALLOW {
         run.evaluate(question, None)
@@ -113,35 +115,40 @@ impl<'a> Run<'a, '_> {
         }
     }
 
-    /// AttrApp, what lies inside the form it opens, and CacheWrite, which counts none. "Where several of 14 to 16 are due, the smallest";
-    /// "AttrApp takes a kept value before σ", and 16 comes "only when the occurrence due is not kept".
+    /// AttrApp, what lies inside the form it opens, and CacheWrite, which counts none. "Where several of 14 to 16 are due, the smallest", and
+    /// 20 is "tested after 14 and before 15"; "AttrApp takes a kept value before σ", and 16 comes "only when the occurrence due is not kept".
     fn attribute(&mut self, node: Value, attribute: u8, parameter: Value) -> Result<Value, Reason> {
         let node = match node {
             Value::Node(Some(node)) => node,
             Value::Node(None) => return Err(Reason::Null),
             other => unreachable!("ill typed: attribute of {other:?}"),
         };
-        self.not_spent()?;
         let occurrence = Occurrence {
             node,
             attribute,
             parameter,
         };
+        let kept = self.store.value(&occurrence);
+        // "When AttrApp is due on an occurrence that is open and not kept, the run stops there, uncounted."
+        if kept.is_none() && self.open.contains(&occurrence) {
+            return Err(Reason::Circle);
+        }
+        self.not_spent()?;
         let rule = Rule::AttrApp(attribute);
-        if let Some(value) = self.store.value(&occurrence) {
+        if let Some(value) = kept {
             self.count(rule);
             return Ok(value);
         }
-        if self.open == MOST_OPEN {
+        if self.open.len() == MOST_OPEN {
             return Err(Reason::Depth);
         }
         self.count(rule);
         let value = match self.sheet.definition(node, attribute) {
             Definition::Figure(figure) => figure,
             Definition::Rule(expr) => {
-                self.open += 1;
+                self.open.push(occurrence);
                 let value = self.evaluate(expr, Some((node, parameter)))?;
-                self.open -= 1;
+                self.open.pop();
                 value
             }
         };

@@ -1,11 +1,14 @@
-//! Document 01, "Plain Saiga": no store, no budget and no limit on depth; document 02, F-4.
+//! Document 01, "Plain Saiga": no store, no budget and no limit on depth; document 02, F-4 and F-9.
 //!
 //! The state is one expression and a count. The expression is kept as the part being stepped and what stands around it,
 //! from the outside in. σ(n, a, v) is its rule's expression with n and v beside it, put for 0x30 and 0x31 where these
 //! are reached.
 
+use std::collections::HashSet;
+
 use crate::expr::Expr;
 use crate::sheet::{Definition, Sheet};
+use crate::store::Occurrence;
 use crate::values::{Overflow, Value};
 
 /// "It ends with a value or on null, and n is the count then; or it runs for ever." There are "three endings, value, null and overflow"
@@ -33,7 +36,7 @@ impl Ending {
 #[derive(Clone, Copy)]
 struct Written<'a> {
     expr: &'a Expr,
-    occurrence: Option<(Value, Value)>,
+    occurrence: Option<Occurrence>,
 }
 
 impl<'a> Written<'a> {
@@ -70,22 +73,65 @@ enum Around<'a> {
     },
 }
 
-/// Runs plain Saiga on an accepted question, for at most `limit` counted steps. "On null, all of plain Saiga ends, uncounted", and on a sum
-/// that does not fit too.
-pub fn run(sheet: &Sheet, question: &Expr, limit: u64) -> Ending {
+/// An occurrence that "comes due inside its own evaluation" (document 02, F-9), the first in a run.
+#[derive(Clone, Copy, Debug, PartialEq, Eq)]
+pub struct Circle {
+    pub occurrence: Occurrence,
+    /// The steps counted before it comes due there.
+    pub steps: u64,
+}
+
+/// How plain Saiga ends, and the circle that it comes to. "A question runs for ever exactly if some occurrence comes due inside its own
+/// evaluation" (document 02, F-9): no run has both, and one that is still running without a circle needs a higher limit to tell.
+#[derive(Clone, Copy, Debug, PartialEq, Eq)]
+pub struct Watched {
+    pub ending: Ending,
+    pub circle: Option<Circle>,
+}
+
+/// The occurrences inside whose own evaluation the part being stepped lies: σ(n, a, v) took the place of a part that is no value yet.
+#[derive(Default)]
+struct Inside {
+    /// From the outside in, each with how many expressions stand around that part.
+    parts: Vec<(Occurrence, usize)>,
+    occurrences: HashSet<Occurrence>,
+}
+
+impl Inside {
+    /// The part with so many expressions around it is a value.
+    fn value(&mut self, around: usize) {
+        while let Some((occurrence, _)) = self.parts.pop_if(|(_, place)| *place == around) {
+            self.occurrences.remove(&occurrence);
+        }
+    }
+
+    /// σ of an occurrence takes the place of the part with so many expressions around it. Whether that lies inside the occurrence's own
+    /// evaluation.
+    fn enter(&mut self, occurrence: Occurrence, around: usize) -> bool {
+        self.parts.push((occurrence, around));
+        !self.occurrences.insert(occurrence)
+    }
+}
+
+/// Runs plain Saiga on an accepted question, for at most `limit` counted steps, past a circle too. "On null, all of plain Saiga ends,
+/// uncounted", and on a sum that does not fit too.
+pub fn watch(sheet: &Sheet, question: &Expr, limit: u64) -> Watched {
     let mut around = Vec::new();
+    let mut inside = Inside::default();
+    let mut circle = None;
     let mut count = 0;
     let mut part = Part::Written(Written {
         expr: question,
         occurrence: None,
     });
-    loop {
+    let ending = loop {
         let value = match part {
             Part::Value(value) => value,
             Part::Written(written) => descend(written, &mut around),
         };
+        inside.value(around.len());
         let reduct = match around.pop() {
-            None => return Ending::Value(value, count),
+            None => break Ending::Value(value, count),
             Some(Around::Left { right }) => {
                 around.push(Around::Right { function: value });
                 part = Part::Written(right);
@@ -105,7 +151,7 @@ pub fn run(sheet: &Sheet, question: &Expr, limit: u64) -> Ending {
             Some(Around::Parameter {
                 node: Value::Node(None),
                 ..
-            }) => return Ending::Null(count),
+            }) => break Ending::Null(count),
             Some(Around::Condition { yes, no }) => match value {
                 Value::Bool(true) => Part::Written(yes),
                 Value::Bool(false) => Part::Written(no),
@@ -113,16 +159,36 @@ pub fn run(sheet: &Sheet, question: &Expr, limit: u64) -> Ending {
             },
             Some(Around::Right { function }) => match function.apply(value) {
                 Ok(result) => Part::Value(result),
-                Err(Overflow) => return Ending::Overflow(count),
+                Err(Overflow) => break Ending::Overflow(count),
             },
-            Some(Around::Parameter { attribute, node }) => context(sheet, node, attribute, value),
+            Some(Around::Parameter {
+                attribute,
+                node: Value::Node(Some(node)),
+            }) => {
+                let occurrence = Occurrence {
+                    node,
+                    attribute,
+                    parameter: value,
+                };
+                if circle.is_none() && inside.enter(occurrence, around.len()) {
+                    circle = Some(Circle {
+                        occurrence,
+                        steps: count,
+                    });
+                }
+                context(sheet, occurrence)
+            }
+            Some(Around::Parameter { node, .. }) => {
+                unreachable!("ill typed: attribute of {node:?}")
+            }
         };
         if count == limit {
-            return Ending::Running(count);
+            break Ending::Running(count);
         }
         count += 1;
         part = reduct;
-    }
+    };
+    Watched { ending, circle }
 }
 
 /// Goes into an expression, along the parts that are stepped first, until there is a value.
@@ -130,8 +196,14 @@ fn descend<'a>(mut written: Written<'a>, around: &mut Vec<Around<'a>>) -> Value 
     loop {
         let first = match written.expr {
             Expr::Literal(value) => return *value,
-            Expr::ThisNode => return written.occurrence.expect("0x30 stands in a rule").0,
-            Expr::Parameter => return written.occurrence.expect("0x31 stands in a rule").1,
+            Expr::ThisNode => {
+                let occurrence = written.occurrence.expect("0x30 stands in a rule");
+                return Value::Node(Some(occurrence.node));
+            }
+            Expr::Parameter => {
+                let occurrence = written.occurrence.expect("0x31 stands in a rule");
+                return occurrence.parameter;
+            }
             Expr::If(parts) => {
                 let [condition, yes, no] = &**parts;
                 around.push(Around::Condition {
@@ -161,15 +233,12 @@ fn descend<'a>(mut written: Written<'a>, around: &mut Vec<Around<'a>>) -> Value 
 }
 
 /// What "takes the place of this part": σ(n, a, v).
-fn context(sheet: &Sheet, node: Value, attribute: u8, parameter: Value) -> Part<'_> {
-    let Value::Node(Some(number)) = node else {
-        unreachable!("ill typed: attribute of {node:?}");
-    };
-    match sheet.definition(number, attribute) {
+fn context(sheet: &Sheet, occurrence: Occurrence) -> Part<'_> {
+    match sheet.definition(occurrence.node, occurrence.attribute) {
         Definition::Figure(value) => Part::Value(value),
         Definition::Rule(expr) => Part::Written(Written {
             expr,
-            occurrence: Some((node, parameter)),
+            occurrence: Some(occurrence),
         }),
     }
 }

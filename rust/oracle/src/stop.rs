@@ -1,4 +1,4 @@
-//! Document 01, "Stops by origin"; document 02, F-4.
+//! Document 01, "Stops by origin"; document 02, F-4 and F-9.
 
 use crate::values::Overflow;
 
@@ -22,6 +22,7 @@ pub enum Reason {
     Spent = 15,
     Depth = 16,
     Overflow = 17,
+    Circle = 20,
 }
 
 impl From<Overflow> for Reason {

@@ -1,10 +1,11 @@
-//! Document 01, "Sheet L and its questions": L1 to L13 with their tallies (document 02, F-2 and F-4), from bytes written out by hand.
+//! Document 01, "Sheet L and its questions": L1 to L13 with their tallies (document 02, F-2, F-4 and F-9), from bytes written out by hand.
 //! `rust/trials` puts many more cases to the evaluator.
 
 use oracle::ask::{ask, read_question};
-use oracle::plain::{self, Ending};
+use oracle::plain::{self, Circle, Ending, Watched};
 use oracle::sheet::Sheet;
 use oracle::stop::Reason;
+use oracle::store::Occurrence;
 use oracle::values::Value;
 
 const MOST: u64 = 1_000_000;
@@ -82,12 +83,14 @@ fn l2_l3_and_l5_to_l13() {
     assert_eq!(asked(&SHEET_L, 1_024, &L10, MOST), [14, 0, 0, 0, 1, 1]);
     let five = [0x12, 5, 0, 0, 0];
     assert_eq!(asked(&SHEET_L, 1_024, &five, 0), [0, 0, 2, 5, 0, 0]);
-    assert_eq!(asked(&SHEET_L12, 1_024, &L12, 65), [16, 0, 0, 0, 64, 0]);
-    assert_eq!(asked(&SHEET_L12, 1_024, &L12, 64), [15, 0, 0, 0, 64, 0]);
-    // "Case L13 now stops after 1 step": 17 where a budget of 1 or more lets it come so far.
-    assert_eq!(asked(&SHEET_L, 1_024, &L13, 0), [15, 0, 0, 0, 0, 0]);
-    for budget in [1, 2, MOST] {
-        assert_eq!(asked(&SHEET_L, 1_024, &L13, budget), [17, 0, 0, 0, 1, 0]);
+    // "Case L12 now stops after 1 step when the budget is 1 or more", and "case L13 now stops after 1 step": 20 and 17, where a budget lets
+    // them come so far.
+    for (sheet, question, number) in [(&SHEET_L12[..], &L12[..], 20), (&SHEET_L, &L13, 17)] {
+        assert_eq!(asked(sheet, 1_024, question, 0), [15, 0, 0, 0, 0, 0]);
+        for budget in [1, 2, 64, 65, MOST] {
+            let given = asked(sheet, 1_024, question, budget);
+            assert_eq!(given, [number, 0, 0, 0, 1, 0]);
+        }
     }
 }
 
@@ -125,8 +128,8 @@ fn the_tallies_of_l1_to_l13() {
     tallies(&SHEET_L, 1_024, &L10, MOST, [1, 0, 0, 0, 0]);
     tallies(&SHEET_L, 1_024, &[0x12, 5, 0, 0, 0], 0, [0; 5]);
     // L12, whose sheet has one attribute
-    tallies(&SHEET_L12, 1_024, &L12, 65, [64, 0, 0, 0, 0]);
-    tallies(&SHEET_L12, 1_024, &L12, 64, [64, 0, 0, 0, 0]);
+    tallies(&SHEET_L12, 1_024, &L12, 0, [0; 5]);
+    tallies(&SHEET_L12, 1_024, &L12, MOST, [1, 0, 0, 0, 0]);
     // L13
     tallies(&SHEET_L, 1_024, &L13, MOST, [0, 0, 0, 1, 0]);
 }
@@ -139,11 +142,7 @@ fn the_empty_sheet_and_the_shortest() {
 
 #[test]
 fn plain_saiga_keeps_nothing() {
-    let ending = |sheet: &[u8], question: &[u8], limit| {
-        let sheet = Sheet::read(sheet).expect("an accepted sheet");
-        let question = read_question(question, &sheet).expect("an accepted question");
-        plain::run(&sheet, &question, limit)
-    };
+    let ending = |sheet: &[u8], question: &[u8], limit| watched(sheet, question, limit).ending;
     let seven_hundred = Ending::Value(Value::Int(700), 8);
     assert_eq!(ending(&SHEET_L, &D, 1_000), seven_hundred);
     let equal = Ending::Value(Value::Bool(true), 18);
@@ -154,6 +153,40 @@ fn plain_saiga_keeps_nothing() {
         assert_eq!(ending(&SHEET_L, question, 1_000), ended);
         assert_eq!(ending(&SHEET_L, question, 1), ended);
         assert_eq!(ending(&SHEET_L, question, 0), Ending::Running(0));
+    }
+}
+
+/// Plain Saiga watched for so many steps.
+fn watched(sheet: &[u8], question: &[u8], limit: u64) -> Watched {
+    let sheet = Sheet::read(sheet).expect("an accepted sheet");
+    let question = read_question(question, &sheet).expect("an accepted question");
+    plain::watch(&sheet, &question, limit)
+}
+
+#[test]
+fn plain_saiga_comes_to_a_circle_where_it_runs_for_ever() {
+    // "Some occurrence comes due inside its own evaluation": after its first step, and before the second is counted.
+    let circle = Circle {
+        occurrence: Occurrence {
+            node: 0,
+            attribute: 0,
+            parameter: Value::Unit,
+        },
+        steps: 1,
+    };
+    for limit in [1, 1_000] {
+        let for_ever = Watched {
+            ending: Ending::Running(limit),
+            circle: Some(circle),
+        };
+        assert_eq!(watched(&SHEET_L12, &L12, limit), for_ever);
+    }
+    assert_eq!(watched(&SHEET_L12, &L12, 0).circle, None);
+    // L6 has D due twice, the second time where the first is a value.
+    for question in [&D[..], &L6, &L10, &L13] {
+        let ended = watched(&SHEET_L, question, 1_000);
+        assert!(ended.ending.n().is_some());
+        assert_eq!(ended.circle, None);
     }
 }
 
@@ -196,4 +229,5 @@ fn stops_have_the_documents_numbers() {
     for (number, reason) in (1..).zip(in_order) {
         assert_eq!(reason as i64, number);
     }
+    assert_eq!(Reason::Circle as i64, 20);
 }

@@ -1,8 +1,11 @@
-//! `check_store` answers by its definition whatever its numbers are: it is held to the C header's words on made-up sheets, stores and numbers.
+//! Calls that answer by their definitions whatever the numbers in their scratch are. `check_store` is held to the C header's words on made-up sheets,
+//! stores and numbers; a run, whose index of the open forms is never cleared, is put questions with made-up numbers in its memory.
 
 use std::collections::HashSet;
 
-use crate::{check_store, CheckedSheet, CheckedStore, SHEET};
+use crate::{
+    ask_in, check_store, Call, CheckedSheet, CheckedStore, Run, RUN, RUN_READ_FIRST, SHEET,
+};
 
 /// The code of the type that a byte of the sheet is read as.
 fn code(byte: u8) -> u8 {
@@ -106,4 +109,63 @@ fn any_numbers_are_answered_as_the_header_says() {
         met[0] > 1_000 && met[9] > 1_000 && met[10] > 1_000,
         "{met:?}"
     );
+}
+
+/// A rule for kind 0 of attributes with Int parameter: `at_1` where the parameter is 1 or less, and else the same attribute of this node with one less.
+fn down(attribute: u8, at_1: &[u8]) -> Vec<u8> {
+    let head = [0x20, 0x21, 0x21, 0x14, 0, 0x31, 0x12, 1, 0, 0, 0];
+    let one_less = [0x21, 0x21, 0x14, 5, 0x31, 0x12, 1, 0, 0, 0];
+    let expr = [&head[..], at_1, &[0x22, attribute, 0x30], &one_less].concat();
+    [&[0x52, 0, attribute, expr.len() as u8, 0][..], &expr].concat()
+}
+
+#[test]
+fn a_run_goes_by_no_number_that_it_did_not_write() {
+    // Attribute 0 of k opens k forms and is 1. Attribute 1 opens as many and then asks for that of 40 again.
+    let sheet = [
+        &[0x41, 2, 2, 0x41, 2, 2, 0x4e, 0][..],
+        &down(0, &[0x12, 1, 0, 0, 0]),
+        &down(1, &[0x22, 1, 0x30, 0x12, 40, 0, 0, 0]),
+        &[0x5a],
+    ]
+    .concat();
+    let mut sheet_scratch = CheckedSheet::default();
+    let mut store_scratch = CheckedStore::default();
+    let mut numbers = Numbers(20);
+    for fill in 0..300 {
+        let mut run = Run::default();
+        for (place, word) in run.words.iter_mut().enumerate() {
+            *word = match fill {
+                0 => 0,
+                1 => u64::MAX,
+                // Numbers of forms in the cells, numbers of cells in the forms' places.
+                _ if place < RUN - 64 => numbers.below(66),
+                _ => numbers.below((RUN - RUN_READ_FIRST) as u64),
+            };
+        }
+        // The memory stays as each question leaves it.
+        for (attribute, k, expected) in [
+            (0, 64, [0, 0, 2, 1, 382, 0]),
+            (1, 40, [20, 0, 0, 0, 238, 0]),
+            (0, 65, [16, 0, 0, 0, 384, 0]),
+            (1, 30, [20, 0, 0, 0, 238, 0]),
+            (0, 64, [0, 0, 2, 1, 382, 0]),
+        ] {
+            let call = Call {
+                sheet: &sheet,
+                question: &[0x22, attribute, 0x13, 0, 0, 0x12, k, 0, 0, 0],
+                store: &mut [],
+                kept: 0,
+                budget: 1_000_000,
+            };
+            let answer = ask_in(
+                call,
+                &mut sheet_scratch,
+                &mut store_scratch,
+                &mut run,
+                &mut [0; 34],
+            );
+            assert_eq!(answer, expected, "{fill} {attribute} {k}");
+        }
+    }
 }

@@ -30,7 +30,10 @@ const NOTES: usize = 65_536;
 /// How many words a checked store has.
 const STORE: usize = 9_216;
 /// How many words a run has.
-const RUN: usize = 8_576;
+const RUN: usize = 10_176;
+/// From here on a run reads words that it has not written: the index of its open forms. Any numbers will do, so they are written once, when the run's
+/// memory is made, and never cleared.
+const RUN_READ_FIRST: usize = 8_576;
 
 /// What the check of a sheet leaves for the questions to it.
 #[derive(Clone)]
@@ -165,8 +168,8 @@ extern "C" {
     ) -> u32;
 }
 
-/// One question with all its checks. Its scratch is on the stack and is not cleared, since nothing is asked of what it holds. `tally` is filled
-/// whole, whatever it held.
+/// One question with all its checks. Its scratch is on the stack. Nothing is asked of what it holds, so that it is not cleared but for the words that
+/// are read before they are written. `tally` is filled whole, whatever it held.
 ///
 /// # Safety
 ///
@@ -176,9 +179,11 @@ pub unsafe fn ask(call: Call, tally: &mut Rows) -> Fields {
     let mut sheet = MaybeUninit::uninit();
     let mut notes = MaybeUninit::uninit();
     let mut store = MaybeUninit::uninit();
-    let mut run = MaybeUninit::uninit();
+    let mut run = MaybeUninit::<[u64; RUN]>::uninit();
     // SAFETY: the four are this call's. The stack is the caller's to see to.
     unsafe {
+        let read_first = run.as_mut_ptr().cast::<u64>().add(RUN_READ_FIRST);
+        read_first.write_bytes(0, RUN - RUN_READ_FIRST);
         ask_within(
             call,
             sheet.as_mut_ptr(),

@@ -217,7 +217,7 @@ mod tests {
         let answers = values
             .into_iter()
             .map(|(typ, value)| [0, 0, typ, value, 8, 5])
-            .chain((1..=17).map(|number| [number, 3, 0, 0, 2, -1]));
+            .chain((1..=17).chain([20]).map(|number| [number, 3, 0, 0, 2, -1]));
         for fields in answers {
             let rows = rows(fields[4]);
             let answer = Answer::from_fields(fields, &rows).expect("an answer");
@@ -230,6 +230,8 @@ mod tests {
     fn nothing_else_is_an_answer() {
         let others = [
             [18, 0, 0, 0, 0, 0],
+            [19, 0, 0, 0, 0, 0],
+            [21, 0, 0, 0, 0, 0],
             [-1, 0, 0, 0, 0, 0],
             [0, 1, 0, 0, 0, 0],
             [0, 0, 4, 0, 0, 0],
@@ -242,6 +244,7 @@ mod tests {
             [14, 0, 2, 0, 1, 0],
             [14, 0, 0, 1, 1, 0],
             [14, -1, 0, 0, 1, 0],
+            [20, 0, 2, 700, 1, 0],
         ];
         for fields in others {
             let read = Answer::from_fields(fields, &rows(fields[4]));

@@ -164,7 +164,7 @@ impl fmt::Debug for Session<'_, '_> {
     }
 }
 
-/// Memory for whole calls, made once: for those who lend bytes of their own and check them at every question. It is some 220 KB.
+/// Memory for whole calls, made once: for those who lend bytes of their own and check them at every question. It is some 230 KB.
 #[derive(Clone, Default)]
 pub struct Scratch {
     sheet: CheckedSheet,

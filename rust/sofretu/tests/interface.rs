@@ -94,6 +94,41 @@ fn a_sum_that_does_not_fit_is_no_figure() {
 }
 
 #[test]
+fn an_equation_that_needs_its_own_value_is_a_circle() {
+    // The attribute of a Bool on one node: it is that of the other Bool, and so that of the same one again.
+    let sheet = [
+        0x41, 2, 1, 0x4E, 0, // the attribute and the node
+        0x52, 0, 0, 7, 0, 0x22, 0, 0x30, 0x21, 0x14, 3, 0x31, // the rule
+        0x5A,
+    ];
+    let question = [0x22, 0, 0x13, 0, 0, 0x11, 1];
+    let sheet = Sheet::check(&sheet).expect("an accepted sheet");
+    let mut store = Store::with_capacity(2);
+    let mut session = Session::open(&sheet, &mut store).expect("an empty store");
+    let before = session.store().clone();
+    // The attribute of both Bools and not for each are counted; the attribute that is due inside itself is not. No larger budget brings more, and
+    // nothing is kept.
+    let expected = Answer::Refusal {
+        stop: Stop::Circle,
+        place: 0,
+        steps: 4,
+        kept: 0,
+        tally: tally(2, 2),
+    };
+    for budget in [MOST_STEPS, MOST_STEPS, 5, 4] {
+        assert_eq!(session.ask(&question, budget), expected);
+        assert_eq!(*session.store(), before);
+    }
+    let spent = session.ask(&question, 3).value();
+    assert_eq!(spent, Err(Stop::Spent.into()));
+    assert_eq!(Stop::Circle.origin(), Origin::Run);
+    assert_eq!(
+        Refusal::from(Stop::Circle).to_string(),
+        "stop 20: an attribute was due inside itself, and so needs its own value"
+    );
+}
+
+#[test]
 fn a_refused_question_leaves_the_session_as_it_was() {
     let sheet = Sheet::check(&ONE_MORE).expect("an accepted sheet");
     let mut store = Store::with_capacity(8);

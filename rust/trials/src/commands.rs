@@ -74,7 +74,7 @@ pub fn run(
     }
 }
 
-/// Shows each list of a file with the engines' answers and plain Saiga's endings, and tries demand 3 on it.
+/// Shows each list of a file with the engines' answers, and plain Saiga's endings and circles, and tries demand 3 on it.
 pub fn replay(engines: &mut [Named], file: &str) -> Result<(), String> {
     let mut bad = 0;
     for listed in lists(file)? {
@@ -95,8 +95,8 @@ pub fn replay(engines: &mut [Named], file: &str) -> Result<(), String> {
             }
             if let Some(sheet) = &sheet {
                 if let Ok(question) = read_question(&ask.question, sheet) {
-                    let ending = plain::run(sheet, &question, PLAIN_LIMIT);
-                    println!("  plain Saiga: {ending:?}");
+                    let plain = plain::watch(sheet, &question, PLAIN_LIMIT);
+                    println!("  plain Saiga: {plain:?}");
                 }
             }
         }

@@ -1,4 +1,5 @@
-//! Demand 3's four parts (document 01, "Contracts"; document 02, F-4), tried on an engine's answers against plain Saiga.
+//! Demand 3's four parts (document 01, "Contracts"; document 02, F-4) and the claims on circles (document 02, F-9), tried on an engine's answers
+//! against plain Saiga.
 //!
 //! - (a) If plain Saiga ends with a value, on null or by overflow in n steps, every permitted budget from n on, put at that place of
 //!   the list, brings that ending in at most n steps, or stop 16.
@@ -7,18 +8,25 @@
 //! - (d) From any one store, every larger permitted budget gives the same answer, its tally included, and leaves the same store,
 //!   unless the smaller budget's answer was 15.
 //!
-//! (a) to (c) are for accepted sheets and lists that start with nothing kept. Where plain Saiga still runs after the
-//! limit, (a) is not tried, and (b) cannot be settled: a kept value can spare any number of steps.
+//! The claims on circles:
 //!
-//! Beside them, with a store of capacity 0 every step is a plain one: an ending is then plain Saiga's, count and all. And the rows of every
-//! answer add up to its steps (document 02, F-2).
+//! - (1) A question gets stop 20 only if plain Saiga runs for ever on it.
+//! - (2) One on which plain Saiga runs for ever gets 20, 15 or 16 under every permitted budget.
+//! - (3) Of plain Saiga itself: it runs for ever exactly if some occurrence comes due inside its own evaluation. So no question that ends has such an
+//!   occurrence, and (1) and (2) are tried by it.
+//!
+//! (a) to (c) and the claims are for accepted sheets and lists that start with nothing kept. Where plain Saiga still runs after the
+//! limit, (a) is not tried, and (b) cannot be settled: a kept value can spare any number of steps. Without a circle by then, nor can (1) and (3).
+//!
+//! Beside them, with a store of capacity 0 every step is a plain one: an ending is then plain Saiga's, count and all, and stop 20 comes where
+//! plain Saiga first has an occurrence due inside its own evaluation. And the rows of every answer add up to its steps (document 02, F-2).
 
 use std::fmt;
 use std::mem;
 
 use calls::Stop;
 use oracle::ask::{read_question, Answer, MOST_STEPS};
-use oracle::plain::{self, Ending};
+use oracle::plain::{self, Circle, Ending, Watched};
 use oracle::sheet::Sheet;
 use oracle::store::{well_shaped, ENTRY, MOST_ENTRIES};
 
@@ -33,6 +41,7 @@ const NULL: i64 = Stop::Null as i64;
 const SPENT: i64 = Stop::Spent as i64;
 const DEPTH: i64 = Stop::Depth as i64;
 const OVERFLOW: i64 = Stop::Overflow as i64;
+const CIRCLE: i64 = Stop::Circle as i64;
 
 /// What is checked, as it is named in counts and violations.
 const A: &str = "demand 3 (a)";
@@ -40,10 +49,15 @@ const B: &str = "demand 3 (b)";
 const B_UNSETTLED: &str = "demand 3 (b), not settled";
 const C: &str = "demand 3 (c)";
 const D: &str = "demand 3 (d)";
+const CIRCLES_1: &str = "circles (1)";
+const CIRCLES_1_UNSETTLED: &str = "circles (1), not settled";
+const CIRCLES_2: &str = "circles (2)";
+const CIRCLES_3: &str = "circles (3)";
+const CIRCLES_3_UNSETTLED: &str = "circles (3), not settled";
 const CAPACITY_0: &str = "capacity 0";
 const TALLY: &str = "tally";
 
-/// A part of demand 3 that an engine breaks, or the check of capacity 0 or of tallies.
+/// A part of demand 3 that an engine breaks, a claim on circles, or the check of capacity 0 or of tallies.
 #[derive(Clone, Debug, PartialEq, Eq)]
 pub struct Violation {
     pub part: &'static str,
@@ -62,7 +76,7 @@ impl fmt::Display for Violation {
     }
 }
 
-/// Tries all four parts on a list.
+/// Tries all four parts and the claims on circles on a list.
 pub fn demand3<E: Engine + ?Sized>(engine: &mut E, case: &Case) -> Result<Counts, Violation> {
     let sheet = Sheet::read(&case.sheet).ok();
     let claimed = sheet.filter(|_| case.kept == 0 && well_shaped(&case.store));
@@ -78,11 +92,13 @@ pub fn demand3<E: Engine + ?Sized>(engine: &mut E, case: &Case) -> Result<Counts
         });
     });
     let mut before = Lent::first(case);
+    let mut watched = Vec::new();
     for (question, (ask, left)) in case.asks.iter().zip(lefts).enumerate() {
-        let ending = claimed.as_ref().and_then(|sheet| {
+        let plain = claimed.as_ref().and_then(|sheet| {
             let question = read_question(&ask.question, sheet).ok()?;
-            Some(plain::run(sheet, &question, PLAIN_LIMIT))
+            Some(plain::watch(sheet, &question, PLAIN_LIMIT))
         });
+        watched.push(plain);
         let own = Tried {
             budget: ask.budget,
             answer: answers[question],
@@ -92,7 +108,7 @@ pub fn demand3<E: Engine + ?Sized>(engine: &mut E, case: &Case) -> Result<Counts
             sheet: &case.sheet,
             ask,
             before: mem::replace(&mut before, left),
-            ending,
+            plain,
         };
         place
             .try_budgets(engine, own, &mut counts)
@@ -103,7 +119,8 @@ pub fn demand3<E: Engine + ?Sized>(engine: &mut E, case: &Case) -> Result<Counts
             })?;
     }
     if claimed.is_some() {
-        try_larger_stores(engine, case, &answers, &mut counts)?;
+        let expected: Vec<_> = watched.into_iter().zip(answers).collect();
+        try_larger_stores(engine, case, &expected, &mut counts)?;
     }
     Ok(counts)
 }
@@ -113,8 +130,8 @@ struct Place<'a> {
     sheet: &'a [u8],
     ask: &'a Ask,
     before: Lent,
-    /// Plain Saiga's, where (a) and (b) claim something.
-    ending: Option<Ending>,
+    /// What plain Saiga comes to, where something is claimed of it.
+    plain: Option<Watched>,
 }
 
 /// What one budget brought.
@@ -125,7 +142,7 @@ struct Tried {
 }
 
 impl Place<'_> {
-    /// Parts (a), (b) and (d), over budgets around the boundaries.
+    /// Parts (a), (b) and (d) and the claims on circles, over budgets around the boundaries.
     fn try_budgets<E: Engine + ?Sized>(
         &self,
         engine: &mut E,
@@ -152,10 +169,16 @@ impl Place<'_> {
             try_tally(&own.answer, counts).map_err(|detail| (TALLY, detail))?;
             self.try_b(&own, counts).map_err(|detail| (B, detail))?;
         }
+        if let Some(plain) = self.plain {
+            try_circles_3(plain, counts).map_err(|detail| (CIRCLES_3, detail))?;
+        }
         for tried in &tried {
             try_tally(&tried.answer, counts).map_err(|detail| (TALLY, detail))?;
             self.try_a(tried, counts).map_err(|detail| (A, detail))?;
             self.try_b(tried, counts).map_err(|detail| (B, detail))?;
+            if let Some(plain) = self.plain {
+                try_circles_1_and_2(plain, tried.budget, &tried.answer, counts)?;
+            }
             self.try_capacity_0(tried, counts)
                 .map_err(|detail| (CAPACITY_0, detail))?;
         }
@@ -169,7 +192,7 @@ impl Place<'_> {
     fn budgets(&self, own: &Answer) -> Vec<u64> {
         let steps = own.steps.max(0) as u64;
         let mut budgets = vec![0, MOST_STEPS];
-        let n = self.ending.and_then(Ending::n).unwrap_or(steps);
+        let n = self.plain.and_then(boundary).unwrap_or(steps);
         for middle in [steps, n, self.ask.budget] {
             budgets.extend([
                 middle.saturating_sub(1),
@@ -185,7 +208,7 @@ impl Place<'_> {
     }
 
     fn try_a(&self, tried: &Tried, counts: &mut Counts) -> Result<(), String> {
-        let Some(ending) = self.ending else {
+        let Some(Watched { ending, .. }) = self.plain else {
             return Ok(());
         };
         if ending.n().is_none_or(|n| tried.budget < n) {
@@ -199,8 +222,8 @@ impl Place<'_> {
     }
 
     fn try_b(&self, tried: &Tried, counts: &mut Counts) -> Result<(), String> {
-        match self.ending {
-            Some(ending) if ended(&tried.answer) => {
+        match self.plain {
+            Some(Watched { ending, .. }) if ended(&tried.answer) => {
                 if ending.n().is_none() {
                     counts.check(B_UNSETTLED);
                     return Ok(());
@@ -218,13 +241,20 @@ impl Place<'_> {
 
     fn try_capacity_0(&self, tried: &Tried, counts: &mut Counts) -> Result<(), String> {
         let answer = &tried.answer;
-        if !self.before.bytes.is_empty() || !ended(answer) {
+        let Some(Watched { ending, circle }) = self.plain else {
+            return Ok(());
+        };
+        if !self.before.bytes.is_empty() || !(ended(answer) || answer.number == CIRCLE) {
             return Ok(());
         }
-        let good = match self.ending {
-            Some(Ending::Running(n)) => answer.steps > n as i64,
-            Some(ending) => same_ending(answer, ending) && ending.n() == Some(answer.steps as u64),
-            None => return Ok(()),
+        let good = match (ending, circle) {
+            (_, Some(Circle { steps, .. })) => {
+                answer.number == CIRCLE && answer.steps == steps as i64
+            }
+            (Ending::Running(n), None) => answer.steps > n as i64,
+            (ending, None) => {
+                same_ending(answer, ending) && ending.n() == Some(answer.steps as u64)
+            }
         };
         counts.check(CAPACITY_0);
         if good {
@@ -235,11 +265,50 @@ impl Place<'_> {
     }
 
     fn differs(&self, tried: &Tried) -> String {
-        format!(
-            "plain Saiga: {:?}, but budget {} brings {}",
-            self.ending, tried.budget, tried.answer
-        )
+        differs(self.plain, tried.budget, &tried.answer)
     }
+}
+
+fn differs(plain: Option<Watched>, budget: u64, answer: &Answer) -> String {
+    format!("plain Saiga: {plain:?}, but budget {budget} brings {answer}")
+}
+
+/// The steps after which plain Saiga ends or comes to a circle.
+fn boundary(Watched { ending, circle }: Watched) -> Option<u64> {
+    ending.n().or(circle.map(|circle| circle.steps))
+}
+
+fn try_circles_1_and_2(
+    plain: Watched,
+    budget: u64,
+    answer: &Answer,
+    counts: &mut Counts,
+) -> Result<(), (&'static str, String)> {
+    if answer.number == CIRCLE {
+        match (plain.ending.n(), plain.circle) {
+            (None, Some(_)) => counts.check(CIRCLES_1),
+            (None, None) => counts.check(CIRCLES_1_UNSETTLED),
+            (Some(_), _) => return Err((CIRCLES_1, differs(Some(plain), budget, answer))),
+        }
+    }
+    if plain.circle.is_some() && budget <= MOST_STEPS {
+        if ![CIRCLE, SPENT, DEPTH].contains(&answer.number) {
+            return Err((CIRCLES_2, differs(Some(plain), budget, answer)));
+        }
+        counts.check(CIRCLES_2);
+    }
+    Ok(())
+}
+
+fn try_circles_3(plain: Watched, counts: &mut Counts) -> Result<(), String> {
+    counts.check(match (plain.ending.n(), plain.circle) {
+        (Some(_), Some(circle)) => {
+            return Err(format!("plain Saiga: {:?}, after {circle:?}", plain.ending));
+        }
+        (None, None) => CIRCLES_3_UNSETTLED,
+        (Some(_), None) | (None, Some(_)) => CIRCLES_3,
+    });
+    Ok(())
 }
 
 /// Whether an answer reports an ending at all.
@@ -320,11 +389,11 @@ fn try_c(
     ))
 }
 
-/// Part (c), with the answers that the list brought.
+/// Part (c) and the claims on circles, with what plain Saiga comes to and the answers that the list brought.
 fn try_larger_stores<E: Engine + ?Sized>(
     engine: &mut E,
     case: &Case,
-    answers: &[Answer],
+    expected: &[(Option<Watched>, Answer)],
     counts: &mut Counts,
 ) -> Result<(), Violation> {
     let capacity = case.store.len() / ENTRY;
@@ -343,10 +412,11 @@ fn try_larger_stores<E: Engine + ?Sized>(
                 .collect(),
             ..case.clone()
         };
-        let mut before = answers.iter().enumerate();
+        let mut expected = expected.iter().zip(&case.asks).enumerate();
         let mut violation = None;
         engine.list(&with_larger, &mut |after, _| {
-            let (question, before) = before.next().expect("an answer to each question");
+            let (question, ((plain, before), ask)) =
+                expected.next().expect("an answer to each question");
             if violation.is_some() {
                 return;
             }
@@ -355,6 +425,10 @@ fn try_larger_stores<E: Engine + ?Sized>(
                 .and_then(|()| {
                     try_c((capacity, before), (larger, &after), counts)
                         .map_err(|detail| (C, detail))
+                })
+                .and_then(|()| match plain {
+                    Some(plain) => try_circles_1_and_2(*plain, ask.budget, &after, counts),
+                    None => Ok(()),
                 });
             violation = tried.err().map(|(part, detail)| Violation {
                 part,

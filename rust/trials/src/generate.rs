@@ -1,9 +1,11 @@
 //! Made-up cases: sheets, stores, questions and budgets, repeatable from a seed.
 //!
 //! - `sheets.rs`: whole sheets by family: random ones with and without circles, chains deeper than 64, attributes that call
-//!   themselves with smaller parameters, circles, hostile ones (the longest rules, the deepest nesting, the widest fan-out), trees,
+//!   themselves with smaller parameters, hostile ones (the longest rules, the deepest nesting, the widest fan-out), trees,
 //!   and large ones up to every limit and one byte beyond. Those with deep chains come with questions of which one has what another keeps
 //!   due inside 64 forms. The attributes that matter have any numbers from 0 to 31, so that their steps are in every row of the tally.
+//! - `circles.rs`: sheets and questions with attributes that need themselves, over one attribute or several, one node or many, with the same parameter or
+//!   one that changes and comes back; in every place of a rule; inside up to 64 forms and more; and some that a figure or a parameter ends.
 //! - `sums.rs`: sheets and questions with sums at both ends of Int and beyond them, due in every place of a rule, and attributes that climb to an
 //!   end.
 //! - `collisions.rs`: sheets, questions and stores with keys that fall into one bucket of the store's index, and along its longest path.
@@ -13,6 +15,7 @@
 //! - `stores.rs`: first stores of every capacity, new, left over from earlier questions, wrong in their values, corrupted or misshapen.
 //! - here: the lists, in which questions are put again, and budgets around the steps that each question takes, the depth limit, and both ends.
 
+mod circles;
 mod collisions;
 mod draft;
 mod faults;
@@ -168,8 +171,8 @@ mod tests {
             let unmet = met[&number].unmet_rows();
             assert_eq!(unmet, [0; 0], "rows under {number}");
         }
-        // Forms go deep by few attributes at a time, and sums that do not fit are few.
-        for number in [16, 17] {
+        // Forms go deep by few attributes at a time, and so do circles; sums that do not fit are few.
+        for number in [16, 17, 20] {
             let unmet = met[&number].unmet_rows();
             assert!(unmet.len() <= 8, "rows under {number}: {unmet:?}");
             assert!([0, 31, 32, 33].iter().all(|row| !unmet.contains(row)));
@@ -195,7 +198,7 @@ mod tests {
     }
 
     #[test]
-    fn null_and_overflow_are_met_at_and_around_the_step_where_they_are_due() {
+    fn null_overflow_and_circle_are_met_at_and_around_the_step_where_they_are_due() {
         let mut answers = 0;
         let mut met: BTreeMap<i64, Met> = BTreeMap::new();
         let oracle = &mut Oracle::default();
@@ -222,7 +225,7 @@ mod tests {
                 }
             }
         }
-        for number in [14, 17] {
+        for number in [14, 17, 20] {
             let met = &met[&number];
             let all = met.at + met.next + met.later;
             let percent = 100 * all / answers;
@@ -261,7 +264,7 @@ mod tests {
 
     #[test]
     fn lists_start_from_stores_of_every_sort() {
-        let cases: Vec<Case> = (0..1_500).map(|number| case(11, number)).collect();
+        let cases: Vec<Case> = (0..4_000).map(|number| case(11, number)).collect();
         let with = |wanted: &dyn Fn(&Case) -> bool| cases.iter().any(wanted);
         assert!(with(&|case| case.store.is_empty()));
         assert!(with(&|case| case.store.len() == 12_288 && case.kept == 0));

@@ -1,5 +1,5 @@
-//! The frame machine (document 01, "The steps", with stops 14 to 16; document 02, F-4, with stop 17): heads are read until one is a value, and
-//! values are given to frames until one has an expression to step.
+//! The frame machine (document 01, "The steps", with stops 14 to 16; document 02, F-4 and F-9, with stops 17 and 20): heads are read until one is
+//! a value, and values are given to frames until one has an expression to step.
 
 use calls::index::Key;
 use calls::tally::{APPLICATIONS, ATTRIBUTES, CONDITIONS};
@@ -8,12 +8,13 @@ use calls::{Refusal, Rows, Stop};
 use crate::answers::Answer;
 use crate::bytes::{four, int, two};
 use crate::expressions::LONGEST;
+use crate::occurrences::Occurrences;
 use crate::sheets::{Definition, Sheet};
 use crate::stores::{Found, Store};
 use crate::values::{Function, Value, NULL};
 
 /// How many forms can be open.
-const MOST_OPEN: usize = 64;
+pub const MOST_OPEN: usize = 64;
 /// A question and each open form has a frame for every two of its bytes at most.
 const MOST_FRAMES: usize = LONGEST / 2 * (1 + MOST_OPEN);
 
@@ -36,12 +37,13 @@ pub enum Frame {
     Form,
 }
 
-/// An open form: its occurrence, and the offset to go on from in the piece around it.
+/// An open form: its occurrence, the link that the search for it in the store gave, and the offset to go on from in the piece around it.
 #[derive(Clone, Copy)]
 pub struct Form {
     node: u16,
     attribute: u8,
     parameter: Value,
+    free: u16,
     back: usize,
 }
 
@@ -49,6 +51,7 @@ pub struct Form {
 pub struct Stack {
     frames: [Frame; MOST_FRAMES],
     forms: [Form; MOST_OPEN],
+    occurrences: Occurrences,
     /// The width of each expression of the question less one, at the offset of its first byte, from its check.
     pub widths: [u8; LONGEST],
 }
@@ -59,11 +62,13 @@ impl Default for Stack {
             node: 0,
             attribute: 0,
             parameter: Value::Unit,
+            free: 0,
             back: 0,
         };
         Stack {
             frames: [Frame::Condition; MOST_FRAMES],
             forms: [form; MOST_OPEN],
+            occurrences: Occurrences::default(),
             widths: [0; LONGEST],
         }
     }
@@ -80,6 +85,16 @@ impl Budget {
             0 => Err(Stop::Spent),
             _ => Ok(()),
         }
+    }
+
+    /// Counts the AttrApp of what is not kept, inside so many open forms.
+    #[inline(always)]
+    fn count_inside(&mut self, open: usize, row: &mut u64) -> Result<(), Stop> {
+        self.allows()?;
+        if open == MOST_OPEN {
+            return Err(Stop::Depth);
+        }
+        self.count(row)
     }
 
     /// Counts a step in its row.
@@ -118,6 +133,7 @@ fn evaluate(
     Stack {
         frames,
         forms,
+        occurrences,
         widths: noted,
     }: &mut Stack,
 ) -> Result<Value, Stop> {
@@ -218,34 +234,40 @@ fn evaluate(
                     if node == NULL {
                         return Err(Stop::Null);
                     }
-                    budget.allows()?;
                     let key = Key {
                         node,
                         attribute,
                         word: value.word(),
                     };
-                    let found = store.find(key);
-                    if open == MOST_OPEN && matches!(found, Found::Nothing(_)) {
-                        return Err(Stop::Depth);
-                    }
                     // A declared attribute's number is below 32. The remainder says so, and no index is tested.
-                    budget.count(&mut tally[usize::from(attribute) % ATTRIBUTES])?;
+                    let row = &mut tally[usize::from(attribute) % ATTRIBUTES];
                     let result = sheet.result(attribute);
-                    value = match found {
-                        Found::Value(kept) => result.value(kept),
+                    value = match store.find(key) {
+                        Found::Value(kept) => {
+                            budget.count(row)?;
+                            result.value(kept)
+                        }
                         Found::Nothing(free) => match sheet.definition(node, attribute) {
                             Definition::Figure(figure) => {
+                                // Its form closes at once, and so is never open around a part.
+                                budget.count_inside(open, row)?;
                                 let figure = result.value(figure);
                                 store.append(free, key, figure);
                                 figure
                             }
                             Definition::Rule(start) => {
+                                if occurrences.has(open, key) {
+                                    return Err(Stop::Circle);
+                                }
+                                budget.count_inside(open, row)?;
                                 forms[open] = Form {
                                     node,
                                     attribute,
                                     parameter: value,
+                                    free: free as u16,
                                     back: at,
                                 };
+                                occurrences.open(open, key);
                                 open += 1;
                                 frames[top] = Frame::Form;
                                 piece = sheet.bytes;
@@ -260,12 +282,13 @@ fn evaluate(
                 Frame::Form => {
                     open -= 1;
                     let form = forms[open];
+                    occurrences.close(open);
                     let key = Key {
                         node: form.node,
                         attribute: form.attribute,
                         word: form.parameter.word(),
                     };
-                    store.write(key, value);
+                    store.write(form.free.into(), key, value);
                     if open == 0 {
                         piece = question;
                         widths = &noted[..];

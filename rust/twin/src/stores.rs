@@ -130,12 +130,18 @@ impl<'a> Store<'a> {
         }
     }
 
-    /// CacheWrite.
-    pub fn write(&mut self, key: Key, value: Value) {
+    /// CacheWrite. An occurrence that is open is not kept. `free` is what the search for it gave when it was opened: where an entry hangs there
+    /// by now, the search goes on.
+    pub fn write(&mut self, free: usize, key: Key, value: Value) {
         if self.kept < self.entries.len() {
-            if let Found::Nothing(free) = self.find(key) {
-                self.append(free, key, value);
-            }
+            let free = match self.links[free] {
+                0 => free,
+                _ => match self.find(key) {
+                    Found::Nothing(free) => free,
+                    Found::Value(_) => unreachable!("an open occurrence is kept"),
+                },
+            };
+            self.append(free, key, value);
         }
     }
 }

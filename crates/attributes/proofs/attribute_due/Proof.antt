@@ -1,16 +1,14 @@
--- `attributes::attribute_due` meets its contract: by the limits, in the order in which the definition tests them.
+-- `attributes::attribute_due` meets its contract: null first, then what the store has of the occurrence.
+use mathlib.Core.Path.{refl}
 use borrow.Author.Needs.{needs}
-use Rattle.engine.specs.CodeSteps.{steppedOf, keptAfter}
-use Rattle.attributes.proofs.Opening.{due-null, due-spent, node-held, DueStep, due-ready, due-taken}
+use Rattle.engine.specs.CodeSteps.{steppedOf, keptAfter, formsAfter}
+use Rattle.attributes.proofs.Opening.{due-null, node-held, DueStep, due-ready, due-taken}
 use Rattle.attributes.proofs.attribute_due.Statement.{statement}
 use Rattle.attributes.proofs.attribute_due.Tie as tie
 
 -- From where the attribute is read: where the node is read, and the start. An answer further on does not see so far back by itself.
 abbrev read : tie.After-attribute → tie.After-node-of
-read c =
-    let at-if2 = c .before in
-    let at-if1 = at-if2 .before .before .before in
-    at-if1 .before
+read c = c .before .before
 
 abbrev start : tie.After-attribute → tie.Start
 start c =
@@ -20,27 +18,28 @@ start c =
 
 due : (c : tie.After-attribute)
     → DueStep (start c .args .sheet .now) (start c .args .index .now) (start c .args .store .now) (start c .args .links .now)
-    (start c .args .memory .now) (start c .args .limits .budget) (start c .args .m) (start c .args .w)
-    (read c .node-of .result) (c .attribute .result)
+    (start c .args .memory .now) (start c .args .m) (start c .args .w) (read c .node-of .result) (c .attribute .result)
 due c =
     record {
       node-is = search node-held;
       attribute-is = search;
       no-null = search;
-      left = search;
       ready = start c .pre .1;
     }
 
 pub attribute-due-spec : {M : Type 1} → statement M
-unfolding steppedOf keptAfter
+unfolding steppedOf keptAfter formsAfter
 attribute-due-spec =
     tie.close
     (tie.spec
     (λ c κs. search needs)
     (λ c κs. search needs)
     (λ c κs. search needs)
-    (λ c. search (needs, due-null))
-    (λ c. search (needs, due-spent))
+    (λ c.
+    let at-node = c .before .before .before in
+    let at-slice-known = at-node .before .before .before in
+    let entry = at-slice-known .before .before .before in
+    (search due-null, (entry .pre .0 .0, (entry .pre .0 .1, refl))))
     (λ c. search needs)  -- the key
     (λ c κs. search needs)
     (λ c. search needs)

@@ -1,7 +1,7 @@
 -- `attributes::close_form` meets its contract: it reads the numbers of the innermost form, and CacheWrite does the rest.
 use Rattle.engine.proofs.RunMemory.{node-fits, word-fits}
 use borrow.Author.Needs.{needs, fits-under}
-use Rattle.attributes.proofs.CacheWriteCases.{form-keyed, closes}
+use Rattle.attributes.proofs.CacheWriteCases.{form-absent, form-keyed, closes}
 use Rattle.attributes.proofs.close_form.Statement.{statement}
 use Rattle.attributes.proofs.close_form.Tie as tie
 
@@ -19,7 +19,7 @@ close-form-spec =
     (λ c. search needs)
     (λ c. search needs)
     (λ c. search word-fits)
-    (λ c κs. search (needs, form-keyed))
+    (λ c κs. search (needs, form-keyed, form-absent))
     (λ c. search needs)  -- memory[f + 2]
     (λ c. search needs)
     (λ c. search needs)

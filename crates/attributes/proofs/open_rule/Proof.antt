@@ -2,7 +2,7 @@
 use native.Mathlib.Omega.{arith}
 use lib.ListN.{length-set}
 use borrow.Author.Needs.{needs}
-use Rattle.attributes.proofs.Opening.{step-fits, rule-short, rule-runs}
+use Rattle.attributes.proofs.Opening.{step-fits, rule-short, rule-runs, rule-beyond}
 use Rattle.attributes.proofs.open_rule.Statement.{statement}
 use Rattle.attributes.proofs.open_rule.Tie as tie
 
@@ -36,4 +36,4 @@ open-rule-spec =
     (λ c. search needs)
     (λ c. search step-fits)
     (λ c. search needs)
-    (λ c store. search rule-runs))
+    (λ c. (λ store. search rule-runs, search rule-beyond)))

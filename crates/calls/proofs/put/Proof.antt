@@ -39,7 +39,7 @@ put-spec =
     let at-m = c .before in
     let at-run = ran (at-m .before .before .before) in
     let ensured = at-run .run .ensures in
-    finished (start (begun at-run) .pre .0) (begun at-run .begin .ensures) _ _ (ensured .0) (ensured .1 .1) _ (start (begun at-run) .pre .1) (ensured .1 .0) (at-m .m .given .1))
+    finished (start (begun at-run) .pre .0) (begun at-run .begin .ensures) _ _ (ensured .0) (ensured .1 .1 .0) _ (start (begun at-run) .pre .1) (ensured .1 .0) (at-m .m .given .1))
     (λ c. search needs)
     (λ c. search needs)
     (λ c. search needs)
@@ -48,7 +48,7 @@ put-spec =
     let at-number = c .before in
     let at-run = ran (at-number .before .before .before) in
     let ensured = at-run .run .ensures in
-    stopped (start (begun at-run) .pre .0) (begun at-run .begin .ensures) _ _ (ensured .0) (ensured .1 .1) _ (start (begun at-run) .pre .1) (ensured .1 .0) (at-number .number .given .1))
+    stopped (start (begun at-run) .pre .0) (begun at-run .begin .ensures) _ _ (ensured .0) (ensured .1 .1 .0) _ (start (begun at-run) .pre .1) (ensured .1 .0) (at-number .number .given .1))
     (λ c. search needs)
     (λ c. search needs)
     (λ c. search needs)
@@ -57,4 +57,4 @@ put-spec =
     let at-m2 = c .before in
     let at-run = ran (at-m2 .before .before .before) in
     let ensured = at-run .run .ensures in
-    paused (start (begun at-run) .pre .0) (begun at-run .begin .ensures) _ _ (ensured .0) (ensured .1 .1) _ (start (begun at-run) .pre .1) (ensured .1 .0) (at-m2 .m2 .given .1)))
+    paused (start (begun at-run) .pre .0) (begun at-run .begin .ensures) _ _ (ensured .0) (ensured .1 .1 .0) _ (start (begun at-run) .pre .1) (ensured .1 .0) (at-m2 .m2 .given .1)))

@@ -2,6 +2,8 @@
 -- is none of the nine others.
 use Rattle.engine.proofs.HeadsRead.{two-operand, reads-unit, reads-bool, reads-int, reads-node, reads-function, reads-if, reads-application, reads-attribute, reads-this, reads-parameter, parameter-ready}
 use Rattle.saiga.specs.Expressions.{headOf}
+use Rattle.engine.proofs.RunMemory.{frame-beyond}
+use mathlib.Core.Path.{refl}
 use mir.Facts.{toZ-ofZ}
 use native.Mathlib.Omega.{arith}
 use borrow.Author.Needs.{needs}
@@ -177,35 +179,35 @@ returns c =
     let at-match = c .before in
     let at-shared-slice-known2 = at-match .before .before .before in
     let entry = at-shared-slice-known2 .before .before in
-    λ index store. rw (c .returned .ensures) (reads-unit (entry .pre) index store (at-match .match .keys1))
+    (λ index store. rw (c .returned .ensures) (reads-unit (entry .pre) index store (at-match .match .keys1)), refl)
 
 returns-2 : tie.Need-returns-2
 returns-2 c =
     let at-match = c .before .before in
     let at-shared-slice-known2 = at-match .before .before .before in
     let entry = at-shared-slice-known2 .before .before in
-    λ index store. rw (c .returned2 .ensures) (reads-bool (entry .pre) index store (at-match .match .keys2))
+    (λ index store. rw (c .returned2 .ensures) (reads-bool (entry .pre) index store (at-match .match .keys2)), refl)
 
 returns-3 : tie.Need-returns-3
 returns-3 c =
     let at-match = c .before .before .before in
     let at-shared-slice-known2 = at-match .before .before .before in
     let entry = at-shared-slice-known2 .before .before in
-    λ index store. rw (c .returned3 .ensures, toZ-ofZ (record { sfits = c .before .signed .ok }), c .before .signed .ensures, c .before .before .four .ensures) (reads-int (entry .pre) index store (at-match .match .keys3))
+    (λ index store. rw (c .returned3 .ensures, toZ-ofZ (record { sfits = c .before .signed .ok }), c .before .signed .ensures, c .before .before .four .ensures) (reads-int (entry .pre) index store (at-match .match .keys3)), refl)
 
 returns-4 : tie.Need-returns-4
 returns-4 c =
     let at-match = c .before .before in
     let at-shared-slice-known2 = at-match .before .before .before in
     let entry = at-shared-slice-known2 .before .before in
-    λ index store. rw (c .returned4 .ensures, c .before .two .ensures) (reads-node (entry .pre) index store (at-match .match .keys4))
+    (λ index store. rw (c .returned4 .ensures, c .before .two .ensures) (reads-node (entry .pre) index store (at-match .match .keys4)), refl)
 
 returns-5 : tie.Need-returns-5
 returns-5 c =
     let at-match = c .before .before .before in
     let at-shared-slice-known2 = at-match .before .before .before in
     let entry = at-shared-slice-known2 .before .before in
-    λ index store. rw (c .returned5 .ensures, c .before .function-of .ensures) (reads-function (entry .pre) index store (at-match .match .keys5))
+    (λ index store. rw (c .returned5 .ensures, c .before .function-of .ensures) (reads-function (entry .pre) index store (at-match .match .keys5)), refl)
 
 same-length : tie.Need-same-length
 same-length c = search needs
@@ -215,7 +217,7 @@ returns-6 c =
     let at-match = c .before in
     let at-shared-slice-known2 = at-match .before .before .before in
     let entry = at-shared-slice-known2 .before .before in
-    λ index store. rw (c .pushed .ensures) (reads-if (entry .pre) index store (at-match .match .keys6))
+    (λ index store. rw (c .pushed .ensures) (reads-if (entry .pre) index store (at-match .match .keys6)), frame-beyond _ _ _ (entry .pre .room))
 
 same-length-2 : tie.Need-same-length-2
 same-length-2 c = search needs
@@ -225,7 +227,7 @@ returns-7 c =
     let at-match = c .before in
     let at-shared-slice-known2 = at-match .before .before .before in
     let entry = at-shared-slice-known2 .before .before in
-    λ index store. rw (c .pushed2 .ensures) (reads-application (entry .pre) index store (at-match .match .keys7))
+    (λ index store. rw (c .pushed2 .ensures) (reads-application (entry .pre) index store (at-match .match .keys7)), frame-beyond _ _ _ (entry .pre .room))
 
 same-length-3 : tie.Need-same-length-3
 same-length-3 c = search needs
@@ -235,7 +237,7 @@ returns-8 c =
     let at-match = c .before .before .before in
     let at-shared-slice-known2 = at-match .before .before .before in
     let entry = at-shared-slice-known2 .before .before in
-    λ index store. rw (c .pushed3 .ensures, c .before .on-node .ensures) (reads-attribute (entry .pre) index store (at-match .match .keys8))
+    (λ index store. rw (c .pushed3 .ensures, c .before .on-node .ensures) (reads-attribute (entry .pre) index store (at-match .match .keys8)), frame-beyond _ _ _ (entry .pre .room))
 
 same-length-4 : tie.Need-same-length-4
 same-length-4 c = search needs
@@ -245,7 +247,7 @@ returns-9 c =
     let at-match = c .before .before .before in
     let at-shared-slice-known2 = at-match .before .before .before in
     let entry = at-shared-slice-known2 .before .before in
-    λ index store. rw (c .returned6 .ensures, c .before .this-node .ensures) (reads-this (entry .pre) index store (at-match .match .keys9))
+    (λ index store. rw (c .returned6 .ensures, c .before .this-node .ensures) (reads-this (entry .pre) index store (at-match .match .keys9)), refl)
 
 same-length-5 : tie.Need-same-length-5
 same-length-5 c = search needs
@@ -255,7 +257,7 @@ returns-10 c =
     let at-match = c .before .before .before in
     let at-shared-slice-known2 = at-match .before .before .before in
     let entry = at-shared-slice-known2 .before .before in
-    λ index store. rw (c .returned7 .ensures, c .before .this-parameter .ensures) (reads-parameter (entry .pre) index store (at-match .match .rest))
+    (λ index store. rw (c .returned7 .ensures, c .before .this-parameter .ensures) (reads-parameter (entry .pre) index store (at-match .match .rest)), refl)
 
 pub read-head-spec : {M : Type 1} → statement M
 read-head-spec =

@@ -1,5 +1,5 @@
 -- `engine::take_node` meets its contract: the word that is written holds what `pack` gives.
-use Rattle.engine.proofs.RunMemory.{frame-written}
+use Rattle.engine.proofs.RunMemory.{frame-written, frame-beyond}
 use native.Mathlib.Omega.{arith}
 use borrow.Author.Needs.{needs}
 use Rattle.engine.proofs.take_node.Statement.{statement}
@@ -27,7 +27,15 @@ same-length : tie.Need-same-length
 same-length c = search needs
 
 returns : tie.Need-returns
-returns c = (c .turned .ensures, record { packed = c .before .before .pack .result; packs = c .before .before .pack .ensures; written = λ store. rw (c .before .on-parameter .ensures) (frame-written store _ _ _ (omega arith)) })
+returns c = (
+  c .turned .ensures,
+  record {
+    packed = c .before .before .pack .result;
+    packs = c .before .before .pack .ensures;
+    written = λ store. rw (c .before .on-parameter .ensures) (frame-written store _ _ _ (omega arith));
+    beyond = frame-beyond _ _ _ (omega arith);
+  },
+)
 
 pub take-node-spec : {M : Type 1} → statement M
 take-node-spec =

@@ -3,8 +3,7 @@ use native.Mathlib.Omega.{arith}
 use lib.Dec.{lit<}
 use borrow.Author.Needs.{needs}
 use Rattle.engine.specs.Tallied.{RowsWithin}
-use Rattle.engine.proofs.ReadyForCode.{run-size}
-use Rattle.runs.proofs.ReadyForAttributes.{Given, top-inside, framed, if-ready, skip-ready, reaches, close-ready, attribute-ready}
+use Rattle.runs.proofs.ReadyForAttributes.{Given, run-size, top-inside, framed, if-ready, skip-ready, reaches, close-ready, attribute-ready}
 use Rattle.runs.proofs.Giving.{gives-if, gives-left, gives-skip, gives-right, gives-node, gives-form, gives-attribute}
 use Rattle.runs.proofs.Rows.{row-ready, rows-if, rows-left, rows-skip, rows-right, rows-node, rows-form, rows-attribute}
 use Rattle.runs.proofs.give.Statement.{statement}
@@ -50,7 +49,7 @@ give-spec =
     let at-shared-slice-known4 = at-slice-known3 .before .before .before in
     let at-shared-slice-known = at-shared-slice-known4 .before .before .before in
     let entry = at-shared-slice-known .before in
-    omega (arith, top-inside (entry .pre .0) (entry .pre .1 .1), run-size _ (entry .pre .0 .represents)))
+    omega (arith, top-inside (entry .pre .0) (entry .pre .1 .1), run-size (entry .pre .0)))
     (λ c κs. search needs)
     (λ c κs. search needs)
     -- give_if

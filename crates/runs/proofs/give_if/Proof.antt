@@ -2,7 +2,7 @@
 use mathlib.Core.Path.{refl, _∙_}
 use Rattle.engine.specs.CodeSteps.{steppedOf}
 use Rattle.expressions.proofs.Widths.{width-of}
-use Rattle.runs.proofs.Limits.{within-spent, within-waits, within-goes}
+use Rattle.engine.proofs.Limited.{within-spent, within-waits, within-goes}
 use borrow.Author.Needs.{needs}
 use Rattle.runs.proofs.give_if.Statement.{statement}
 use Rattle.runs.proofs.give_if.Tie as tie
@@ -13,7 +13,7 @@ returns c =
     let at-slice-known = c .before .before .before in
     let entry = at-slice-known .before .before .before in
     let (skip, width) = width-of (entry .args .e .now) in
-    (record { skip = skip; width = width; after = λ store. within-spent _ _ (entry .args .m) _ (c .if1 .taken) }, λ store. refl)
+    (record { skip = skip; width = width; after = λ store. within-spent _ _ (entry .args .m) _ (c .if1 .taken) }, (λ store. refl, refl))
 
 returns-2 : tie.Need-returns-2
 unfolding steppedOf
@@ -22,7 +22,7 @@ returns-2 c =
     let at-slice-known = at-if1 .before .before .before in
     let entry = at-slice-known .before .before .before in
     let (skip, width) = width-of (entry .args .e .now) in
-    (record { skip = skip; width = width; after = λ store. within-waits _ _ (entry .args .m) _ (at-if1 .if1 .left) (c .if2 .taken) }, λ store. refl)
+    (record { skip = skip; width = width; after = λ store. within-waits _ _ (entry .args .m) _ (at-if1 .if1 .left) (c .if2 .taken) }, (λ store. refl, refl))
 
 take-if-requires : tie.Need-take-if-requires
 take-if-requires c κs = search needs
@@ -38,7 +38,14 @@ returns-3 c =
     let at-if1 = at-if2 .before .before .before in
     let at-slice-known = at-if1 .before .before .before in
     let entry = at-slice-known .before .before .before in
-    (record { skip = at-take-if .take-if .ensures .skip; width = at-take-if .take-if .ensures .width; after = λ store. at-take-if .take-if .ensures .after store ∙ within-goes _ _ (entry .args .m) _ (at-if1 .if1 .left) (at-if2 .if2 .left) }, λ store. tt)
+    let taken = at-take-if .take-if .ensures in (
+      record {
+        skip = taken .0 .skip;
+        width = taken .0 .width;
+        after = λ store. taken .0 .after store ∙ within-goes _ _ (entry .args .m) _ (at-if1 .if1 .left) (at-if2 .if2 .left);
+      },
+      (λ store. tt, taken .1),
+    )
 
 pub give-if-spec : {M : Type 1} → statement M
 give-if-spec = tie.close (tie.spec returns returns-2 take-if-requires same-length returns-3)

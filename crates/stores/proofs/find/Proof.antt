@@ -1,6 +1,7 @@
 -- `stores::find` meets its contract: by what stands in the key's bucket.
 use borrow.Author.Needs.{needs}
-use Rattle.stores.proofs.Walks.{first-inside, first-stands, first-nothing, first-free, first-entry, first-other}
+use Rattle.stores.proofs.Walks.{first-inside, first-free, first-other}
+use Rattle.stores.proofs.Linked.{first-stands, first-nothing, first-entry}
 use Rattle.stores.proofs.find.Statement.{statement}
 use Rattle.stores.proofs.find.Tie as tie
 

@@ -4,12 +4,14 @@ use Prim.Native.Nat.{_+_, _-_}
 use native.Mathlib.Omega.{arith}
 use borrow.Author.Needs.{needs}
 use Rattle.stores.specs.Walks.{keyDigits}
-use Rattle.stores.proofs.Walks.{Searching, look-inside, look-stands, sees-nothing, sees-free, sees-entry, other-below, sees-other, first-below, search-goes-below}
+use Rattle.stores.specs.Keys.{keyAt}
+use Rattle.stores.proofs.Walks.{Searching, look-inside, sees-free, other-below, sees-other, first-below, search-goes-below}
+use Rattle.stores.proofs.Linked.{look-stands, sees-nothing, sees-entry}
 use Rattle.stores.proofs.find_below.Statement.{statement}
 use Rattle.stores.proofs.find_below.Tie as tie
 
 abbrev Inv-loop : tie.InvT-loop
-Inv-loop store kept index key first whole cell₀ rest₀ passed₀ cell rest passed = Searching store index key cell rest passed
+Inv-loop store kept index key first whole cell₀ rest₀ passed₀ cell rest passed = Searching (keyAt store) index key cell rest passed
 
 abbrev μ-loop : tie.MeasureT-loop
 μ-loop store kept index key first whole cell₀ rest₀ passed₀ cell rest passed = keyDigits + 1 - passed

@@ -8,9 +8,7 @@ pub look-spec : {M : Type 1} → statement M
 look-spec =
     tie.close
     (tie.spec
-    (λ c. search needs)  -- index[cell]
-    (λ c. search needs)
-    (λ c. search needs)
+    (λ c κs. search needs)
     (λ c. search looks-empty)
     (λ c. search needs)  -- i - 1
     (λ c κs. search needs)

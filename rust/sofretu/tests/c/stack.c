@@ -9,25 +9,26 @@
 
 #include "sofretu.h"
 
-enum { STACK = 512 * 1024, PATTERN = 0xA5, LONGEST = 256 };
+enum { STACK = 512 * 1024, PATTERN = 0xA5, LONGEST = 256, BUDGET = 1000 };
 
-/* An attribute that is defined as itself: asked for, it opens 64 forms. */
-static const uint8_t circle[] = {0x41, 0, 0, 0x4E, 0, 0x52, 0, 0, 4, 0, 0x22, 0, 0x30, 0x10, 0x5A};
+/* An attribute that is itself with one more: asked for, it opens 64 forms, in three steps each. */
+static const uint8_t chain[] = {0x41, 0,    2,    0x4E, 0, 0x52, 0,    0, 13, 0, 0x22, 0,
+                                0x30, 0x21, 0x21, 0x14, 4, 0x31, 0x12, 1, 0,  0, 0,    0x5A};
 
-/* The same with a rule of 256 heads, each of which wants another expression. */
-static uint8_t deep[10 + LONGEST + 1] = {0x41, 0, 0, 0x4E, 0, 0x52, 0, 0, 0, 1};
+/* The same attribute with a rule of 256 heads, each of which wants another expression. */
+static uint8_t deep[10 + LONGEST + 1] = {0x41, 0, 2, 0x4E, 0, 0x52, 0, 0, 0, 1};
 
 /* Heads that each want an expression, and what asks for the attribute. */
 static uint8_t ifs[LONGEST];
 static uint8_t applications[LONGEST];
 static uint8_t attributes[LONGEST];
-static const uint8_t around[] = {0x22, 0, 0x13, 0, 0, 0x10};
+static const uint8_t first[] = {0x22, 0, 0x13, 0, 0, 0x12, 0, 0, 0, 0};
 
 static const struct {
     const uint8_t *bytes;
     uint64_t len;
 } questions[] = {
-    {ifs, sizeof ifs}, {applications, sizeof applications}, {attributes, sizeof attributes}, {around, sizeof around}};
+    {ifs, sizeof ifs}, {applications, sizeof applications}, {attributes, sizeof attributes}, {first, sizeof first}};
 
 static uint8_t store[SOFRETU_MOST_ENTRIES * SOFRETU_ENTRY];
 static sofretu_checked_sheet checked_sheet;
@@ -42,27 +43,27 @@ static uint64_t tally[SOFRETU_TALLY_ROWS];
 #define FOR_EACH_QUESTION for (size_t q = 0; q < sizeof questions / sizeof questions[0]; q++)
 
 static void *ask(void *unused) {
-    sofretu_ask(deep, sizeof deep, around, sizeof around, store, sizeof store, 0, 100, answer, tally);
+    sofretu_ask(deep, sizeof deep, first, sizeof first, store, sizeof store, 0, BUDGET, answer, tally);
     FOR_EACH_QUESTION {
-        sofretu_ask(circle, sizeof circle, questions[q].bytes, questions[q].len, store, sizeof store, 0, 100, answer, tally);
+        sofretu_ask(chain, sizeof chain, questions[q].bytes, questions[q].len, store, sizeof store, 0, BUDGET, answer, tally);
     }
     return unused;
 }
 
 static void *ask_in(void *unused) {
-    sofretu_ask_in(deep, sizeof deep, around, sizeof around, store, sizeof store, 0, 100, &checked_sheet, &noted_sheet, &checked_store, &run, answer,
+    sofretu_ask_in(deep, sizeof deep, first, sizeof first, store, sizeof store, 0, BUDGET, &checked_sheet, &noted_sheet, &checked_store, &run, answer,
                    tally);
     FOR_EACH_QUESTION {
-        sofretu_ask_in(circle, sizeof circle, questions[q].bytes, questions[q].len, store, sizeof store, 0, 100, &checked_sheet, &noted_sheet,
+        sofretu_ask_in(chain, sizeof chain, questions[q].bytes, questions[q].len, store, sizeof store, 0, BUDGET, &checked_sheet, &noted_sheet,
                        &checked_store, &run, answer, tally);
     }
     return unused;
 }
 
 static void *check(void *unused) {
-    sofretu_check(deep, sizeof deep, around, sizeof around, store, sizeof store, 0, 100, &place);
+    sofretu_check(deep, sizeof deep, first, sizeof first, store, sizeof store, 0, BUDGET, &place);
     FOR_EACH_QUESTION {
-        sofretu_check(circle, sizeof circle, questions[q].bytes, questions[q].len, store, sizeof store, 0, 100, &place);
+        sofretu_check(chain, sizeof chain, questions[q].bytes, questions[q].len, store, sizeof store, 0, BUDGET, &place);
     }
     return unused;
 }
@@ -70,19 +71,19 @@ static void *check(void *unused) {
 /* The sheet that is accepted comes last, for the two calls below. */
 static void *check_sheet(void *unused) {
     sofretu_check_sheet(deep, sizeof deep, &checked_sheet, &noted_sheet, found);
-    sofretu_check_sheet(circle, sizeof circle, &checked_sheet, &noted_sheet, found);
+    sofretu_check_sheet(chain, sizeof chain, &checked_sheet, &noted_sheet, found);
     return unused;
 }
 
 static void *check_store(void *unused) {
-    sofretu_check_store(circle, sizeof circle, &checked_sheet, store, sizeof store, 0, &checked_store, &place);
+    sofretu_check_store(chain, sizeof chain, &checked_sheet, store, sizeof store, 0, &checked_store, &place);
     return unused;
 }
 
 static void *ask_checked(void *unused) {
     FOR_EACH_QUESTION {
-        sofretu_ask_checked(circle, sizeof circle, &checked_sheet, &noted_sheet, questions[q].bytes, questions[q].len, store,
-                            sizeof store, 0, 100, &checked_store, &run, answer, tally);
+        sofretu_ask_checked(chain, sizeof chain, &checked_sheet, &noted_sheet, questions[q].bytes, questions[q].len, store,
+                            sizeof store, 0, BUDGET, &checked_store, &run, answer, tally);
     }
     return unused;
 }

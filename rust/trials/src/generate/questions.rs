@@ -18,7 +18,7 @@ pub fn question(rng: &mut Rng, draft: &Draft) -> Vec<u8> {
             return colliding.question(rng);
         }
     }
-    if !draft.questions.is_empty() && rng.once_in(3) {
+    if !draft.questions.is_empty() && rng.once_in(2) {
         return draft.questions[rng.below(draft.questions.len())].clone();
     }
     let attributes = draft.attributes.len().min(MOST_ATTRIBUTES);

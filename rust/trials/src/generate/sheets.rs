@@ -5,6 +5,7 @@ use oracle::expr::LONGEST;
 use oracle::sheet::{LONGEST_SHEET, MOST_ATTRIBUTES, MOST_NODES};
 use oracle::values::{Base, Type, Value};
 
+use super::circles;
 use super::collisions;
 use super::draft::{base_value, int, small_int, Draft};
 use super::rng::Rng;
@@ -14,17 +15,17 @@ use crate::write::{if_else, of};
 
 /// A sheet of some family. Nearly all are accepted.
 pub fn draft(rng: &mut Rng) -> Draft {
-    match rng.below(42) {
+    match rng.below(50) {
         0..=11 => random_sheet(rng, false),
         12..=18 => random_sheet(rng, true),
-        19..=23 => chain(rng),
-        24..=26 => countdown(rng),
-        27..=29 => circle(rng),
-        30..=33 => hostile(rng),
-        34 | 35 => collisions::draft(rng),
-        36 | 37 => tree(rng),
-        38 => large(rng),
-        39 | 40 => sums::draft(rng),
+        19..=25 => chain(rng),
+        26..=30 => countdown(rng),
+        31..=37 => circles::draft(rng),
+        38..=41 => hostile(rng),
+        42 | 43 => collisions::draft(rng),
+        44 | 45 => tree(rng),
+        46 => large(rng),
+        47 | 48 => sums::draft(rng),
         _ => Draft::default(),
     }
 }
@@ -180,40 +181,6 @@ fn countdown(rng: &mut Rng) -> Draft {
             draft.questions.push(question);
         }
     }
-    draft
-}
-
-/// Attributes that lead back to themselves, some of them only on a condition.
-fn circle(rng: &mut Rng) -> Draft {
-    let result = rng.pick(&Base::ALL);
-    let parameter = rng.pick(&Base::ALL);
-    let length = rng.between(1, 5);
-    let mut draft = begun(rng, length);
-    let attributes: Vec<u8> = (0..length)
-        .map(|_| draft.attribute(result, parameter))
-        .collect();
-    let nodes = rng.between(1, 4);
-    for kind in 0..nodes as u8 {
-        draft.node(if rng.once_in(2) { 0 } else { kind });
-    }
-    for kind in 0..nodes as u8 {
-        for (place, attribute) in attributes.iter().enumerate() {
-            let node = if rng.once_in(3) {
-                literal(base_value(rng, Base::Node, nodes))
-            } else {
-                vec![0x30]
-            };
-            let around = of(&node, attributes[(place + 1) % length], &[0x31]);
-            let rule = if rng.once_in(4) {
-                let end = literal(base_value(rng, result, nodes));
-                if_else(&apply(2, &[&[0x30], &node]), &around, &end)
-            } else {
-                around
-            };
-            draft.rules.push((kind, *attribute, rule));
-        }
-    }
-    draft.complete(rng, 12);
     draft
 }
 
@@ -422,7 +389,7 @@ mod tests {
                 random_sheet(rng, true),
                 chain(rng),
                 countdown(rng),
-                circle(rng),
+                circles::draft(rng),
                 hostile(rng),
                 collisions::draft(rng),
                 tree(rng),

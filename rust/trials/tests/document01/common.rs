@@ -2,10 +2,11 @@
 
 use crate::ask;
 use oracle::ask::read_question;
-use oracle::plain::{self, Ending};
+use oracle::plain::{self, Ending, Watched};
 use oracle::sheet::Sheet;
+use trials::compare::Counts;
 pub use trials::write::*;
-use trials::{Answer, Call};
+use trials::{demand3, Answer, Ask, Call, Case};
 
 /// The greatest budget.
 pub const MOST: u64 = 1_000_000;
@@ -36,6 +37,18 @@ pub fn sheet_l12() -> Vec<u8> {
     .concat()
 }
 
+/// One node and an Int attribute with a Bool parameter: of true it is that of false, and of false it is 5.
+pub fn of_the_other_bool() -> Vec<u8> {
+    let other = of(&THIS, 0, &apply(&function(NOT), &PARAMETER));
+    [
+        attribute(INT_TYPE, BOOL_TYPE),
+        node(0),
+        rule(0, 0, &if_else(&PARAMETER, &other, &int(5))),
+        end(),
+    ]
+    .concat()
+}
+
 /// A store of a capacity with nothing kept, and what is asked of it in turn.
 pub struct Lent {
     pub store: Vec<u8>,
@@ -58,10 +71,15 @@ impl Lent {
 }
 
 /// What plain Saiga comes to, within a limit of steps.
-pub fn plain_ending(sheet: &[u8], question: &[u8], limit: u64) -> Ending {
+pub fn plain_watched(sheet: &[u8], question: &[u8], limit: u64) -> Watched {
     let sheet = Sheet::read(sheet).expect("an accepted sheet");
     let question = read_question(question, &sheet).expect("an accepted question");
-    plain::run(&sheet, &question, limit)
+    plain::watch(&sheet, &question, limit)
+}
+
+/// How plain Saiga ends, within a limit of steps.
+pub fn plain_ending(sheet: &[u8], question: &[u8], limit: u64) -> Ending {
+    plain_watched(sheet, question, limit).ending
 }
 
 /// The answer with a new store of 1,024.
@@ -78,4 +96,26 @@ pub fn answer_to(call: &mut Call) -> Answer {
         call.question,
         call.budget,
     )
+}
+
+/// Tries demand 3 and the claims on circles on a list with stores of several capacities. Each comes with what was tried.
+pub fn tried_by_demand_3(sheet: &[u8], asks: &[(Vec<u8>, u64)]) -> Vec<(usize, Counts)> {
+    let mut engine = |mut call: Call| answer_to(&mut call);
+    let ask = |(question, budget): &(Vec<u8>, u64)| Ask {
+        question: question.clone(),
+        budget: *budget,
+    };
+    let mut tried = |capacity| {
+        let case = Case {
+            sheet: sheet.to_vec(),
+            store: vec![0xEE; 12 * capacity],
+            kept: 0,
+            asks: asks.iter().map(ask).collect(),
+        };
+        match demand3(&mut engine, &case) {
+            Ok(counts) => (capacity, counts),
+            Err(violation) => panic!("capacity {capacity}: {violation}"),
+        }
+    };
+    [0, 1, 2, 5, 1_024].map(&mut tried).into()
 }

@@ -58,7 +58,7 @@ fn the_oracle_passes_and_is_counted() {
     for part in ['a', 'b', 'c', 'd'] {
         assert!(counts.checks[&*format!("demand 3 ({part})")] > 5, "{part}");
     }
-    assert_eq!(counts.unmet().len(), 15);
+    assert_eq!(counts.unmet().len(), 16);
 }
 
 #[test]
@@ -246,21 +246,123 @@ fn an_engine_that_keeps_what_overflow_left_open() {
 }
 
 #[test]
-fn an_engine_that_goes_beyond_plain_saiga() {
-    // An attribute defined as itself, answered with 0 where depth is due.
-    let mut engine = |mut call: Call| {
+fn engines_that_go_beyond_plain_saiga() {
+    // 0 where depth is due, and where a circle is.
+    let beyond = |number| {
+        move |mut call: Call| {
+            let given = answer_to(&mut call);
+            match given.number == number {
+                true => brought([0, 0, 2, 0, given.steps, given.kept]),
+                false => given,
+            }
+        }
+    };
+    // An attribute of p is that of p and 1: plain Saiga has not ended by its limit.
+    let rising = of(&THIS, 0, &binary(ADD, &PARAMETER, &int(1)));
+    let sheet = [
+        attribute(INT_TYPE, INT_TYPE),
+        node(0),
+        rule(0, 0, &rising),
+        end(),
+    ];
+    let rising = Case {
+        sheet: sheet.concat(),
+        ..case(0, &[of(&node_literal(0), 0, &int(0))])
+    };
+    assert_eq!(let_by_on(&rising, beyond(16)), (false, Some("capacity 0")));
+    let by = let_by_on(&circle_case(0), beyond(20));
+    assert_eq!(by, (false, Some("circles (2)")));
+}
+
+/// An attribute that is itself, asked for twice.
+fn circle_case(capacity: usize) -> Case {
+    let question = of(&node_literal(0), 0, &UNIT);
+    Case {
+        sheet: sheet_l12(),
+        ..case(capacity, &[question.clone(), question])
+    }
+}
+
+#[test]
+fn an_engine_that_says_circle_on_arrival() {
+    let stopping = |call: Call| brought([20, 0, 0, 0, 0, call.kept as i64]);
+    assert_eq!(let_by(stopping), (false, Some("circles (1)")));
+}
+
+#[test]
+fn an_engine_that_takes_another_parameter_for_the_same() {
+    // Inside the first form any other counts as open.
+    let list = Case {
+        sheet: of_the_other_bool(),
+        ..case(5, &[of(&node_literal(0), 0, &TRUE)])
+    };
+    let careless = |mut call: Call| match answer_to(&mut call) {
+        given if given.steps >= 3 => brought([20, 0, 0, 0, 3, 0]),
+        given => given,
+    };
+    assert_eq!(let_by_on(&list, careless), (false, Some("circles (1)")));
+}
+
+#[test]
+fn an_engine_that_finds_no_circle() {
+    // It goes on to the depth, or to the end of its budget, which the claims let by.
+    let blind = |mut call: Call| match answer_to(&mut call) {
+        Answer { number: 20, .. } if call.budget > 64 => brought([16, 0, 0, 0, 64, 0]),
+        Answer { number: 20, .. } => brought([15, 0, 0, 0, call.budget as i64, 0]),
+        given => given,
+    };
+    assert_eq!(let_by_on(&circle_case(5), blind), (false, None));
+}
+
+#[test]
+fn an_engine_that_tests_the_circle_after_spent() {
+    // The claims let 15 by, so only a list whose budget is just used finds it.
+    let late = |mut call: Call| {
         let given = answer_to(&mut call);
-        match given.number {
-            16 => brought([0, 0, 2, 0, given.steps, given.kept]),
+        match (given.number, given.steps as u64 == call.budget) {
+            (20, true) => Answer {
+                number: 15,
+                ..given
+            },
             _ => given,
         }
     };
-    let circle = Case {
-        sheet: sheet_l12(),
-        ..case(0, &[of(&node_literal(0), 0, &UNIT)])
+    let mut list = circle_case(5);
+    assert_eq!(let_by_on(&list, late), (true, None));
+    list.asks[1].budget = 1;
+    assert_eq!(let_by_on(&list, late), (false, None));
+}
+
+#[test]
+fn an_engine_that_counts_the_step_of_a_circle() {
+    let counting = |mut call: Call| {
+        let mut given = answer_to(&mut call);
+        if given.number == 20 {
+            given.steps += 1;
+            given.tally[0] += 1;
+        }
+        given
     };
-    let violation = demand3(&mut engine, &circle).expect_err("plain Saiga never ends");
-    assert_eq!((violation.part, violation.question), ("capacity 0", 0));
+    assert_eq!(let_by_on(&circle_case(5), counting), (false, None));
+    let by = let_by_on(&circle_case(0), counting);
+    assert_eq!(by, (false, Some("capacity 0")));
+}
+
+#[test]
+fn an_engine_that_keeps_what_a_circle_left_open() {
+    let keeping = |mut call: Call| {
+        let given = answer_to(&mut call);
+        match given.number {
+            20 => {
+                call.store[..12].copy_from_slice(&entry(0, 0, INT_TYPE, 0, 5));
+                Answer { kept: 1, ..given }
+            }
+            _ => given,
+        }
+    };
+    // The second question has a value then, which plain Saiga never comes to.
+    let by = let_by_on(&circle_case(5), keeping);
+    assert_eq!(by, (false, Some("circles (2)")));
 }
 
 #[test]

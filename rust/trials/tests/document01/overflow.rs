@@ -5,7 +5,6 @@ use crate::ask;
 use crate::common::*;
 use oracle::plain::Ending;
 use oracle::values::Value;
-use trials::{demand3, Ask, Call, Case};
 
 const LEAST: i32 = i32::MIN;
 const GREATEST: i32 = i32::MAX;
@@ -425,23 +424,9 @@ fn a_larger_store_brings_the_same_stop_in_no_more_steps() {
     }
 }
 
-/// Tries demand 3 on a list with stores of several capacities, and counts how often each part was tried.
+/// Tries demand 3 on a list in which sums do not fit.
 fn demand_3_holds(sheet: &[u8], asks: &[(Vec<u8>, u64)]) {
-    let mut engine = |mut call: Call| answer_to(&mut call);
-    for capacity in [0, 1, 2, 5, 1_024] {
-        let ask = |(question, budget): &(Vec<u8>, u64)| Ask {
-            question: question.clone(),
-            budget: *budget,
-        };
-        let case = Case {
-            sheet: sheet.to_vec(),
-            store: vec![0xEE; 12 * capacity],
-            kept: 0,
-            asks: asks.iter().map(ask).collect(),
-        };
-        let counts = demand3(&mut engine, &case).unwrap_or_else(|violation| {
-            panic!("capacity {capacity}: {violation}");
-        });
+    for (capacity, counts) in tried_by_demand_3(sheet, asks) {
         for part in ["demand 3 (a)", "demand 3 (b)", "demand 3 (d)"] {
             assert!(counts.checks[part] >= 4, "{part}");
         }

@@ -8,7 +8,7 @@ const PAGE: &str = include_str!("../../../../docs/STOPS.md");
 #[test]
 fn the_oracle_agrees_with_every_example() {
     let examples = read_examples(PAGE).expect("the page's form");
-    for number in 0..=17 {
+    for number in (0..=17).chain([20]) {
         let of_number: Vec<_> = examples
             .iter()
             .filter(|example| example.number == number)

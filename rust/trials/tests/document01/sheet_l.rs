@@ -1,4 +1,4 @@
-//! Document 01, "Sheet L and its questions" and "Likely misreadings"; L13 as document 02, F-4, has it.
+//! Document 01, "Sheet L and its questions" and "Likely misreadings"; L12 and L13 as document 02, F-9 and F-4, have them.
 
 use crate::ask;
 use crate::common::*;
@@ -98,12 +98,14 @@ fn l11_takes_no_steps() {
 }
 
 #[test]
-fn l12_is_depth_or_spent() {
+fn l12_stops_after_1_step() {
     let question = of(&node_literal(0), 0, &UNIT);
-    let given = fresh(&sheet_l12(), &question, 65);
-    assert_eq!(given.fields(), [16, 0, 0, 0, 64, 0]);
-    let given = fresh(&sheet_l12(), &question, 64);
-    assert_eq!(given.fields(), [15, 0, 0, 0, 64, 0]);
+    for budget in [1, 2, 64, 65, MOST] {
+        let given = fresh(&sheet_l12(), &question, budget);
+        assert_eq!(given.fields(), [20, 0, 0, 0, 1, 0]);
+    }
+    let given = fresh(&sheet_l12(), &question, 0);
+    assert_eq!(given.fields(), [15, 0, 0, 0, 0, 0]);
 }
 
 #[test]

@@ -1,4 +1,5 @@
-//! Document 01, "Stops by origin": each stop, its place, and the order among them. `depth` has stop 16, and `overflow` stop 17 of document 02.
+//! Document 01, "Stops by origin": each stop, its place, and the order among them. `depth` has stop 16, `overflow` and `circles` stops 17 and 20 of
+//! document 02.
 
 use crate::ask;
 use crate::common::*;
@@ -519,11 +520,11 @@ fn answers_of_each_base_type() {
 
 #[test]
 fn the_deepest_nesting_fits_the_stack() {
-    let nots = (0..84).fold(of(&THIS, 0, &PARAMETER), |inner, _| {
-        apply(&function(3), &inner)
-    });
-    let sheet = [attribute(1, 1), node(0), rule(0, 0, &nots), end()].concat();
-    let question = of(&node_literal(0), 0, &TRUE);
+    let next = of(&THIS, 0, &binary(ADD, &PARAMETER, &int(1)));
+    let nots = (0..81).fold(next, |inner, _| apply(&function(NOT), &inner));
+    assert_eq!(nots.len(), 256);
+    let sheet = [attribute(1, 2), node(0), rule(0, 0, &nots), end()].concat();
+    let question = of(&node_literal(0), 0, &int(0));
     let given = fresh(&sheet, &question, MOST);
-    assert_eq!(given.fields(), [16, 0, 0, 0, 64, 0]);
+    assert_eq!(given.fields(), [16, 0, 0, 0, 3 * 64, 0]);
 }

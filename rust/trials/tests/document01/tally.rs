@@ -1,4 +1,4 @@
-//! Document 02, F-2: the rows of the tally, which is brought whole by values and by stops 14 to 17, and is zeros under stops 1 to 13.
+//! Document 02, F-2: the rows of the tally, which is brought whole by values and by stops 14 to 17 and 20, and is zeros under stops 1 to 13.
 
 use crate::ask;
 use crate::common::*;
@@ -79,9 +79,9 @@ fn l10_to_l13() {
     assert_eq!(l10, (14, of_l([1, 0, 0, 0, 0])));
     assert_eq!(alone(1_024, &sheet_l(), &int(5), 0), (0, rows(&[])));
     let itself = of(&node_literal(0), 0, &UNIT);
-    for (budget, number) in [(65, 16), (64, 15)] {
+    for budget in [1, MOST] {
         let l12 = alone(1_024, &sheet_l12(), &itself, budget);
-        assert_eq!(l12, (number, rows(&[(0, 64)])));
+        assert_eq!(l12, (20, rows(&[(0, 1)])));
     }
     // The AppApp that has both arguments is not taken.
     let l13 = alone(1_024, &sheet_l(), &l13(), MOST);
@@ -291,6 +291,32 @@ fn stop_17_brings_the_tally_so_far() {
     assert_eq!(tallied(&mut lent, &sheet, &question, MOST), (17, taken));
     let again = rows(&[(30, 1), (31, 1), (APPLICATIONS, 2)]);
     assert_eq!(tallied(&mut lent, &sheet, &question, 4), (17, again));
+}
+
+#[test]
+fn stop_20_brings_the_tally_so_far() {
+    // Attribute 31 is attribute 30 of this node with 0 or one less, and attribute 30 of p is p less attribute 31.
+    let less = binary(SUBTRACT, &PARAMETER, &of(&THIS, 31, &UNIT));
+    let parameter = if_else(&TRUE, &binary(SUBTRACT, &int(0), &int(1)), &int(0));
+    let sheet = [
+        attribute(INT_TYPE, UNIT_TYPE).repeat(30),
+        attribute(INT_TYPE, INT_TYPE),
+        attribute(INT_TYPE, UNIT_TYPE),
+        node(0),
+        (0..30).flat_map(|number| figure(0, number, 0)).collect(),
+        rule(0, 30, &less),
+        rule(0, 31, &of(&THIS, 30, &parameter)),
+        end(),
+    ]
+    .concat();
+    let question = of(&node_literal(0), 31, &UNIT);
+    // Attribute 31, CondTrue and subtract's two, attribute 30 and subtract's first; attribute 31 is not taken again.
+    let taken = rows(&[(30, 1), (31, 1), (APPLICATIONS, 3), (CONDITIONS, 1)]);
+    for budget in [6, 7, MOST] {
+        assert_eq!(alone(1, &sheet, &question, budget), (20, taken));
+    }
+    let before = rows(&[(30, 1), (31, 1), (APPLICATIONS, 2), (CONDITIONS, 1)]);
+    assert_eq!(alone(1, &sheet, &question, 5), (15, before));
 }
 
 #[test]

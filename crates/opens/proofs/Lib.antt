@@ -1,0 +1,4 @@
+pub mod FormKeys
+pub mod Cells
+pub mod Opened
+pub mod Looks
