@@ -1,7 +1,7 @@
 -- AttrApp by its cases: the rule's piece, the figure, the kept value, and the stops before them.
 use mathlib.Core.Bool.{true, false}
 use mathlib.Core.List.{List, []}
-use mathlib.Core.Option.{Option, none, some}
+use mathlib.Core.Option.{none, some}
 use mathlib.Core.Path.{_≡_, refl, ap, _∙_, sym}
 use Prim.Native.Nat.{ℕ, zero, suc, _+_, _*_, _-_, _/_, _%_, _≤_, _<_}
 use native.Mathlib.Omega.{arith}
@@ -24,7 +24,7 @@ use Rattle.stores.proofs.Searches.{nothing-found, found-at, found-below}
 use Rattle.values.specs.Packed.{valueIn}
 use Rattle.engine.specs.declared.Registers.{Registers}
 use Rattle.engine.specs.FrameWords.{formKind, heldAttribute, heldNode}
-use Rattle.engine.specs.Decode.{frameLimit, openCells, formPlace, formsIn, opensIn}
+use Rattle.engine.specs.Decode.{frameLimit, formPlace, formsIn, opensIn}
 use Rattle.engine.specs.OpenKeys.{formKey, keyOpen}
 use Rattle.engine.specs.Ready.{memoryOf}
 use Rattle.engine.specs.CodeSteps.{steppedOf, keptAfter, formsAfter, keptIn, Still}
@@ -36,7 +36,7 @@ use Rattle.engine.proofs.Attributes.{setFour, four-first, four-second}
 use Rattle.opens.specs.declared.Opening.{Opening}
 use Rattle.opens.specs.declared.Opening.the-variants.{Open, Closed}
 use Rattle.opens.specs.Opened.{Opened, FreeFor, isOpenIn, ClosedAt, planted, Plants}
-use Rattle.opens.proofs.Opened.{free-cell, opened-more}
+use Rattle.opens.proofs.Opened.{opened-more}
 use Rattle.engine.specs.Steps.{Memory, Stepped, goes, waits, finishes, stops, answered, cacheWrite, within, limited, openRule, keepsFigure, openFigure, ruleDue, takeKept, attributeDue}
 use Rattle.attributes.specs.Due.{StepReady, RuleReady, OpenReady, FoundReady, AttributeReady}
 
@@ -133,9 +133,6 @@ module _ (sheet index : List ℕ) (n a : ℕ) (rule : IndexedRule sheet index n 
     rule-beyond = rw f-is (form-beyond run (m .forms) (n * 32 + a) word (m .at) (m .end) few (m .frames - 1) formKind top-inside)
 
 -- ---- The index of the open forms
-
-pub place-inside : (run : List ℕ) (m : Registers) (q : Key) (cell : ℕ) → OpenReady run m q cell → cell < openCells
-place-inside run m q cell ready = free-cell _ _ _ (ready .opened) q cell (ready .free)
 
 -- the forms that a move goes on with
 formsIn-of : List ℕ → Stepped → List ℕ
@@ -308,33 +305,17 @@ module _ (budget limit : ℕ) (m : Registers) (v : Value) (r : Step)
   stays : Stays (steppedOf r mem)
   stays = rw (taken mem) (within-holds Stays limit m _ budget (λ _. tt) (λ _ _. tt) (λ _ _. (refl, refl)))
 
-  pub found-kept : keptAfter r m ≡ m .kept
-  unfolding keptAfter steppedOf
-  found-kept = go r (stays)
+  pub found-numbers : (keptAfter r m ≡ m .kept) × (formsAfter r m ≡ m .forms)
+  unfolding keptAfter formsAfter steppedOf
+  found-numbers = go r stays
     where
-      go : (r : Step) → Stays (steppedOf r mem) → keptAfter r m ≡ m .kept
-      go (Goes after) h = h .0
-      go Waits h = refl
-      go Finishes h = refl
-      go (Stops number) h = refl
+      go : (r : Step) → Stays (steppedOf r mem) → (keptAfter r m ≡ m .kept) × (formsAfter r m ≡ m .forms)
+      go (Goes after) h = h
+      go Waits h = (refl, refl)
+      go Finishes h = (refl, refl)
+      go (Stops number) h = (refl, refl)
 
-  pub found-forms : formsAfter r m ≡ m .forms
-  unfolding formsAfter steppedOf
-  found-forms = go r (stays)
-    where
-      go : (r : Step) → Stays (steppedOf r mem) → formsAfter r m ≡ m .forms
-      go (Goes after) h = h .1
-      go Waits h = refl
-      go Finishes h = refl
-      go (Stops number) h = refl
-
-  pub found-linked : (store links : List ℕ) → Linked store (m .kept) links → Linked store (keptAfter r m) links
-  found-linked store links linked = rw found-kept linked
-
-  pub found-opened : (forms opens : List ℕ) → Opened forms opens (m .forms) → Opened forms opens (formsAfter r m)
-  found-opened forms opens opened = rw found-forms opened
-
--- the same, where the numbers are told
+-- What holds of the store's index and of the open forms' by these numbers holds on.
 pub kept-linked : (r : Step) (m : Registers) (store links : List ℕ) → keptAfter r m ≡ m .kept → Linked store (m .kept) links → Linked store (keptAfter r m) links
 kept-linked r m store links same linked = rw same linked
 
@@ -375,11 +356,6 @@ module _ (sheet store : List ℕ) (m : Registers) (a j : ℕ) (ready : FoundRead
 -- what is answered keeps the number that it is given
 pub answer-keeps : (store links : List ℕ) (m r : Registers) (v : Value) (kept : ℕ) → r ≡ answered m kept v → Linked store kept links → Linked store (r .kept) links
 answer-keeps store links m r v kept by linked = rw by linked
-
--- the open forms are those that were open
-pub answer-opens : (run : List ℕ) (m r : Registers) (v : Value) (kept : ℕ) → r ≡ answered m kept v → Opened (formsIn run) (opensIn run) (m .forms)
-    → Opened (formsIn run) (opensIn run) (r .forms)
-answer-opens run m r v kept by opened = rw by opened
 
 -- ---- Null
 

@@ -43,7 +43,7 @@ unfolding isOpen
 apart-write sheet C s [] o v closed a = tt
 apart-write sheet C s (p ∷ os) o v closed (absent, different, rule, rest) =
     let (other, below) = neither (sameOccurrence p o) (isOpen os o) closed in (
-      write-other C s record { occurrence = o; value = v } p (other-way p o other) absent,
+      write-other C s record { occurrence = o; value = v } p (other-way p o other) ∙ absent,
       different,
       rule,
       apart-write sheet C s os o v below rest,

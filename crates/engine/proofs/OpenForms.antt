@@ -8,16 +8,14 @@ use Prim.Native.Nat.{ℕ, zero, suc, _+_, _*_, _-_, _<_}
 use native.Mathlib.Omega.{arith}
 use lib.Dec.{eqb}
 use lib.ListN.{length, getD}
-use borrow.Author.Tests.{eq-eqb}
-use Rattle.saiga.specs.Values.{boolT, nodeT, Ty, base, _⇒_, ofWord, toWord}
+use Rattle.saiga.specs.Values.{boolT, nodeT, Ty, base, _⇒_, toWord}
 use Rattle.saiga.specs.declared.Value.{Value}
 use Rattle.saiga.specs.Types.{Attribute, attributeAt}
 use Rattle.saiga.specs.Sheet.{Sheet}
 use Rattle.saiga.specs.Terms.{Occurrence, val, cond, app, attr, form}
 use Rattle.saiga.specs.Caching.{Running, sameOccurrence, isOpen}
 use Rattle.saiga.specs.Sound.{ValueIn, OccurrenceIn, RunningIn, val∈, cond∈, app∈, attr∈, form∈, All, all-none, all-cons}
-use Rattle.saiga.proofs.Equality.{same-occurrence}
-use Rattle.saiga.proofs.FourBytes.{same-value-refl}
+use Rattle.saiga.proofs.Equality.{same-occurrence, occurrence-refl, occurrence-settled}
 use Rattle.saiga.proofs.Preservation.{either}
 use Rattle.stores.specs.Keys.{sameKey}
 use Rattle.stores.proofs.Searches.{same-key, key-refl}
@@ -115,20 +113,9 @@ module _ (sheet question words forms : List ℕ) where
 -- ---- By their keys
 
 module _ {nodes : ℕ} {sig : List Attribute} (o : Occurrence) (o-in : OccurrenceIn nodes sig o) where
-  same-self : sameOccurrence o o ≡ true
-  unfolding sameOccurrence
-  same-self = rw (eq-eqb (o .node) (o .node) refl, eq-eqb (o .attribute) (o .attribute) refl) (same-value-refl (o-in .parameter-in))
-
   -- An occurrence of the sheet is settled by its key.
   key-settles : (p : Occurrence) → OccurrenceIn nodes sig p → keyOf p ≡ keyOf o → p ≡ o
-  key-settles p p-in same =
-      let attributes : p .attribute ≡ o .attribute = ap (λ q. q .attribute) same in
-      let words : toWord (p .parameter) ≡ toWord (o .parameter) = ap (λ q. q .word) same in
-      let parameters : p .parameter ≡ o .parameter =
-      sym (p-in .parameter-in .round-trip)
-      ∙ (λ i. ofWord (attributeAt sig (attributes i) .parameter-type) (words i))
-      ∙ o-in .parameter-in .round-trip in
-      λ i. record { node = same i .node; attribute = attributes i; parameter = parameters i }
+  key-settles p p-in same = occurrence-settled p p-in o o-in (ap (λ q. q .node) same) (ap (λ q. q .attribute) same) (ap (λ q. q .word) same)
 
   pub same-by-key : (p : Occurrence) → OccurrenceIn nodes sig p → sameOccurrence p o ≡ sameKey (keyOf p) (keyOf o)
   same-by-key p p-in = go (sameOccurrence p o) refl (sameKey (keyOf p) (keyOf o)) refl
@@ -136,7 +123,7 @@ module _ {nodes : ℕ} {sig : List Attribute} (o : Occurrence) (o-in : Occurrenc
       go : (b : Bool) → sameOccurrence p o ≡ b → (c : Bool) → sameKey (keyOf p) (keyOf o) ≡ c → b ≡ c
       go true e true f = refl
       go true e false f = absurd (false≢true (sym f ∙ rw (same-occurrence p o e) (key-refl (keyOf o))))
-      go false e true f = absurd (false≢true (sym e ∙ rw (key-settles p p-in (same-key _ _ f)) same-self))
+      go false e true f = absurd (false≢true (sym e ∙ rw (key-settles p p-in (same-key _ _ f)) (occurrence-refl o o-in)))
       go false e false f = refl
 
   module _ (sheet forms : List ℕ) where

@@ -15,7 +15,6 @@ use Rattle.stores.proofs.Walks.{Searching, search-starts, cell-small, sees-none
 use Rattle.engine.specs.Decode.{openCells, opensPlace, formsIn, opensIn}
 use Rattle.engine.specs.OpenKeys.{formKey, keyOpen}
 use Rattle.engine.proofs.RunMemory.{open-at, words-kept, forms-kept, open-written}
-use Rattle.opens.specs.declared.Opening.{Opening}
 use Rattle.opens.specs.declared.Opening.the-variants.{Open, Closed}
 use Rattle.opens.specs.Opened.{placeOf, cellIn, countedIn, Opened, isOpenIn, Plants}
 use Rattle.opens.proofs.FormKeys.{key-open, key-closed}

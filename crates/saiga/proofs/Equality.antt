@@ -1,13 +1,17 @@
--- The tests of base values and occurrences say equality.
+-- The tests of base values and occurrences say equality; and what settles an occurrence of a sheet.
 use mathlib.Core.Bool.{true, false, _&&_, cond, false≢true, and-eq-true-iff}
+use mathlib.Core.List.{List}
 use mathlib.Core.Path.{_≡_, refl, sym, _∙_, ap, ap₂}
 use Prim.Native.Nat.{ℕ}
 use lib.Dec.{eqb, ltb}
 use lib.IntN.{ℤ, pos, negsuc}
-use borrow.Author.Tests.{eqb-true}
-use Rattle.saiga.specs.Values.{Value, unit, bool, int, node, function, holding, equalZ, typeCode, decimal, sameValue}
+use borrow.Author.Tests.{eqb-true, eq-eqb}
+use Rattle.saiga.specs.Values.{Base, Value, unit, bool, int, node, function, holding, equalZ, ofWord, toWord, typeCode, decimal, sameValue}
+use Rattle.saiga.specs.Types.{Attribute, attributeAt}
 use Rattle.saiga.specs.Terms.{Occurrence}
 use Rattle.saiga.specs.Caching.{sameOccurrence}
+use Rattle.saiga.specs.Sound.{OccurrenceIn}
+use Rattle.saiga.proofs.FourBytes.{same-value-refl}
 
 equal-integers : (y z : ℤ) → equalZ y z ≡ true → y ≡ z
 unfolding equalZ
@@ -52,3 +56,19 @@ same-occurrence o p e =
       attribute = eqb-true (o .attribute) (p .attribute) (numbers .1) i;
       parameter = same-value (o .parameter) (p .parameter) (tests .1) i;
     }
+
+-- ---- Occurrences of a sheet
+
+module _ {nodes : ℕ} {sig : List Attribute} (o : Occurrence) (o-in : OccurrenceIn nodes sig o) where
+  pub occurrence-refl : sameOccurrence o o ≡ true
+  unfolding sameOccurrence
+  occurrence-refl = rw (eq-eqb (o .node) (o .node) refl, eq-eqb (o .attribute) (o .attribute) refl) (same-value-refl (o-in .parameter-in))
+
+  -- A parameter is settled by its attribute's type and its four-byte form.
+  pub occurrence-settled : (p : Occurrence) → OccurrenceIn nodes sig p → o .node ≡ p .node → o .attribute ≡ p .attribute
+      → toWord (o .parameter) ≡ toWord (p .parameter) → o ≡ p
+  occurrence-settled p p-in same-node same-attribute same-word =
+      let type-of : ℕ → Base = λ a. attributeAt sig a .parameter-type in
+      let parameters : o .parameter ≡ p .parameter =
+      sym (o-in .parameter-in .round-trip) ∙ ap₂ ofWord (ap type-of same-attribute) same-word ∙ p-in .parameter-in .round-trip in
+      λ i. record { node = same-node i; attribute = same-attribute i; parameter = parameters i }

@@ -4,7 +4,7 @@ use mathlib.Core.Bool as Bool
 use mathlib.Core.Logic.{_⊎_, inl, inr}
 use mathlib.Core.Option.{none, some, Option·none-ne-some}
 use mathlib.Core.List.{List, [], _∷_, _++_}
-use mathlib.Core.Path.{_≡_, refl, sym}
+use mathlib.Core.Path.{_≡_, refl}
 use Prim.Native.Nat.{ℕ, _≤_}
 use native.Mathlib.Omega.{arith}
 use lib.Dec.{leb}
@@ -74,25 +74,19 @@ kept-write C s n o v k = go (isKept (kept s (n .occurrence)) || leb C (length s)
     go true = k
     go false = kept-before s (n ∷ []) o v k
 
--- CacheWrite keeps nothing of another occurrence.
-kept-other : (l : List Entry) (n : Entry) (o : Occurrence) → sameOccurrence (n .occurrence) o ≡ false → kept l o ≡ none → kept (l ++ n ∷ []) o ≡ none
+-- Of another occurrence, what is kept stays as it is.
+pub kept-other : (l : List Entry) (n : Entry) (o : Occurrence) → sameOccurrence (n .occurrence) o ≡ false → kept (l ++ n ∷ []) o ≡ kept l o
 unfolding kept
-kept-other [] n o other k = rw other
-kept-other (m ∷ l) n o other k = go (sameOccurrence (m .occurrence) o) k (kept-other l n o other)
-  where
-    go : (b : Bool) → Bool.cond b (some (m .value)) (kept l o) ≡ none → (kept l o ≡ none → kept (l ++ n ∷ []) o ≡ none)
-        → Bool.cond b (some (m .value)) (kept (l ++ n ∷ []) o) ≡ none
-    go true k rest = absurd (Option·none-ne-some (m .value) (sym k))
-    go false k rest = rest k
+kept-other [] n o other = rw other
+kept-other (m ∷ l) n o other = rw (kept-other l n o other)
 
-pub write-other : (C : ℕ) (s : List Entry) (n : Entry) (o : Occurrence) → sameOccurrence (n .occurrence) o ≡ false → kept s o ≡ none
-    → kept (write C s n) o ≡ none
+pub write-other : (C : ℕ) (s : List Entry) (n : Entry) (o : Occurrence) → sameOccurrence (n .occurrence) o ≡ false → kept (write C s n) o ≡ kept s o
 unfolding write
-write-other C s n o other k = go (isKept (kept s (n .occurrence)) || leb C (length s))
+write-other C s n o other = go (isKept (kept s (n .occurrence)) || leb C (length s))
   where
-    go : (b : Bool) → kept (Bool.cond b s (s ++ n ∷ [])) o ≡ none
-    go true = k
-    go false = kept-other s n o other k
+    go : (b : Bool) → kept (Bool.cond b s (s ++ n ∷ [])) o ≡ kept s o
+    go true = refl
+    go false = kept-other s n o other
 
 pub kept-run : {context : ℕ → ℕ → Expr} {C budget : ℕ} {st : State} {end : Ended} → Runs context C budget st end
     → (o : Occurrence) (v : Value) → kept (st .entries) o ≡ some v → kept (end .entries) o ≡ some v

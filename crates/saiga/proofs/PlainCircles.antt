@@ -5,14 +5,14 @@ use mathlib.Core.Bool as Bool
 use mathlib.Core.List.{List}
 use mathlib.Core.Logic.{_⊎_, inl, inr}
 use mathlib.Core.Option.{some}
-use mathlib.Core.Path.{_≡_, refl, sym, _∙_, ap, ap₂}
+use mathlib.Core.Path.{_≡_, refl}
 use Prim.Native.Nat.{ℕ, zero, suc, _+_, _*_, _≤_, _<_, zero-le}
 use native.Mathlib.Omega.{arith}
 use lib.Dec.{eqb}
 use lib.ListN.{length}
 use borrow.Author.Tests.{eqb-true, eqb-false, ne-eqb}
 use Rattle.saiga.specs.Limits.{nodeLimit, attributeLimit}
-use Rattle.saiga.specs.Values.{Base, nodeT, Ty, base, Value, truth, null, nodeOf, Applied, gives, overflows, apply, wordLimit, ofWord, toWord}
+use Rattle.saiga.specs.Values.{nodeT, Ty, base, Value, truth, null, nodeOf, Applied, gives, overflows, apply, wordLimit, toWord}
 use Rattle.saiga.specs.Expressions.{Expr}
 use Rattle.saiga.specs.Types.{Attribute, attributeAt}
 use Rattle.saiga.specs.Terms.{Occurrence, val, cond, app, attr}
@@ -23,6 +23,7 @@ use Rattle.saiga.specs.Ask.{asked, checkQuestion}
 use Rattle.saiga.specs.Demand3.{PlainEnding, a-value, no-value, PlainEnds}
 use Rattle.saiga.specs.PlainCircles.{Around, whole, in-condition, in-function, in-argument, in-node, in-parameter, fill, DueOn, σ, ComesDue, CircleIn, PlainCircles}
 use Rattle.saiga.proofs.FourBytes.{word-small}
+use Rattle.saiga.proofs.Equality.{occurrence-settled}
 use Rattle.saiga.proofs.Accepted.{AcceptedSheet, accepted-sheet}
 use Rattle.saiga.proofs.Places.{due-inside, fill-ends, fill-comes, step-first, comes-on, as-alone, circle-for-ever}
 use Rattle.saiga.proofs.Preservation.{either, σ-in, due-occurrence, plain-at-in}
@@ -225,7 +226,6 @@ module _ (s : Sheet) (sheet-in : AcceptedSheet s) where
   unfolding code occurrenceLimit
   code-small o i = omega (arith, sheet-in .nodes-bound, i .node-declared, attribute-small o i, parameter-small o i)
 
-  -- A parameter is settled by its attribute's type and its four-byte form.
   code-apart : (o p : Occurrence) → OccurrenceOf o → OccurrenceOf p → code o ≡ code p → o ≡ p
   unfolding code
   code-apart o p i j e =
@@ -237,10 +237,7 @@ module _ (s : Sheet) (sheet-in : AcceptedSheet s) where
       let words : toWord (o .parameter) ≡ toWord (p .parameter) = omega arith in
       let nodes : o .node ≡ p .node = omega arith in
       let attributes : o .attribute ≡ p .attribute = omega arith in
-      let type-of : ℕ → Base = λ a. attributeAt (s .attributes) a .parameter-type in
-      let parameters : o .parameter ≡ p .parameter =
-      sym (i .parameter-in .round-trip) ∙ ap₂ ofWord (ap type-of attributes) words ∙ j .parameter-in .round-trip in
-      λ k. record { node = nodes k; attribute = attributes k; parameter = parameters k }
+      occurrence-settled o i p j nodes attributes words
 
 -- ---- The claim
 

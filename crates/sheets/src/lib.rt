@@ -252,8 +252,8 @@ fn is_defined(index: &[u16], n: usize, k: usize, a: usize) -> bool
     requires { ⌜ (length (now index) ≡ indexSize) × (n < nodeLimit) × (k ≤ lastKind) × (a < attributeLimit) ⌝ }
     ensures { λ r. ⌜ r ≡ pairIndexed (now (index .entry)) n k a ⌝ }
 {
-    let figure = lookup::number_at(index, lookup::figure_place(n, a));
-    let rule = lookup::number_at(index, lookup::rule_place(k, a));
+    let figure = values::cell_at(index, lookup::figure_place(n, a));
+    let rule = values::cell_at(index, lookup::rule_place(k, a));
     figure + rule != 0
 }
 

@@ -41,27 +41,19 @@ pub fn rule_place(k: usize, a: usize) -> usize
     RULES_AT + k * ATTRIBUTE_LIMIT + a
 }
 
-// The number that the index has at a place.
-pub fn number_at(index: &[u16], place: usize) -> usize
-    requires { ⌜ place < length (now index) ⌝ }
-    ensures { λ r. ⌜ (r ≡ getD (now (index .entry)) place 0) × (r < 65536) ⌝ }
-{
-    index[place] as usize
-}
-
 // How many attributes and nodes an accepted sheet declares.
 pub fn attribute_count(index: &[u16]) -> usize
     requires { ⌜ length (now index) ≡ indexSize ⌝ }
     ensures { λ r. ⌜ r ≡ getD (now (index .entry)) attributesPlace 0 ⌝ }
 {
-    number_at(index, ATTRIBUTES_PLACE)
+    values::cell_at(index, ATTRIBUTES_PLACE)
 }
 
 pub fn node_count(index: &[u16]) -> usize
     requires { ⌜ length (now index) ≡ indexSize ⌝ }
     ensures { λ r. ⌜ r ≡ getD (now (index .entry)) nodesPlace 0 ⌝ }
 {
-    number_at(index, NODES_PLACE)
+    values::cell_at(index, NODES_PLACE)
 }
 
 // The figure of a pair, by one read of the index.
@@ -69,7 +61,7 @@ pub fn figure(sheet: &[u8], index: &[u16], n: usize, a: usize) -> FoundFigure
     requires { ⌜ IndexedPair (now sheet) (now index) n a ⌝ }
     ensures { λ r. ⌜ figureOf r ≡ indexed (getD (now (index .entry)) (figurePlace n a) 0) (figureAt (now (sheet .entry)) a) ⌝ }
 {
-    let number = number_at(index, figure_place(n, a));
+    let number = values::cell_at(index, figure_place(n, a));
     if number == 0 {
         return FoundFigure::NoFigure;
     }
@@ -82,7 +74,7 @@ fn rule_number(sheet: &[u8], index: &[u16], n: usize, a: usize) -> usize
     ensures { λ r. ⌜ r ≡ ruleNumber (now (sheet .entry)) (now (index .entry)) n a ⌝ }
 {
     let k = values::kind_at(sheet, attribute_count(index), n) as usize;
-    number_at(index, rule_place(k, a))
+    values::cell_at(index, rule_place(k, a))
 }
 
 // The piece of the rule for a node's kind and an attribute, as a part of the sheet.

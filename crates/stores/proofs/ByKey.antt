@@ -10,7 +10,7 @@ use native.Mathlib.Omega.{arith}
 use lib.Dec.{eqb, ltb}
 use lib.ListN.{length, take, drop, length-append}
 use lib.Seq.{drop-drop}
-use borrow.Author.Tests.{ltb-true, eqb-true, eqb-false, eq-eqb, not-true, not-false}
+use borrow.Author.Tests.{ltb-true, eqb-true, eqb-false, not-true, not-false}
 use Rattle.saiga.specs.Values.{Base, baseCode, isWord, ofWord}
 use Rattle.saiga.specs.declared.Fields.{Fields}
 use Rattle.saiga.specs.declared.Value.{Value}
@@ -21,8 +21,9 @@ use Rattle.saiga.specs.Terms.{Occurrence}
 use Rattle.saiga.specs.Caching.{Entry, sameOccurrence, kept, isKept}
 use Rattle.saiga.specs.Store.{entryOf, isEntry, readEntries, checkStore}
 use Rattle.saiga.specs.Sound.{OccurrenceIn}
-use Rattle.saiga.proofs.FourBytes.{word-trip, word-in, same-value-refl}
-use Rattle.saiga.proofs.Equality.{same-occurrence}
+use Rattle.saiga.proofs.FourBytes.{word-trip, word-in}
+use Rattle.saiga.proofs.Equality.{same-occurrence, occurrence-refl}
+use Rattle.saiga.proofs.Keeping.{kept-other}
 use Rattle.saiga.proofs.Entries.{store-in, read-one, read-none}
 use Rattle.stores.specs.declared.Key.{Key}
 use Rattle.stores.specs.declared.Trial.the-variants as trial
@@ -172,21 +173,12 @@ kept-after (d ∷ l) e o h = go (sameOccurrence (d .occurrence) o) h (kept-after
     go true h f = absurd (let z : _≡_ {A = ℕ} 0 1 = cc in omega arith)
     go false h f = f h
 
-kept-other : (l : List Entry) (e : Entry) (o : Occurrence) → sameOccurrence (e .occurrence) o ≡ false → kept (l ++ e ∷ []) o ≡ kept l o
-unfolding kept
-kept-other [] e o h = rw h
-kept-other (d ∷ l) e o h = rw (kept-other l e o h)
-
 not-kept : (v : Option Value) → isKept v ≡ false → v ≡ none
 unfolding isKept
 not-kept none h = refl
 not-kept (some v) h = absurd (true≢false h)
 
 module _ (s : Sheet) (store : List ℕ) (o : Occurrence) (declared : OccurrenceIn (nodeCount s) (s .attributes) o) where
-  occurrence-refl : sameOccurrence o o ≡ true
-  unfolding sameOccurrence
-  occurrence-refl = rw (eq-eqb (o .node) (o .node) refl, eq-eqb (o .attribute) (o .attribute) refl) (same-value-refl (declared .parameter-in))
-
   -- An entry with the key of an occurrence is of that occurrence.
   entry-of : (j : ℕ) → keyAt store j ≡ keyOf o → entryAt s store j ≡ record { occurrence = o; value = ofWord (resultType s (keyOf o)) (valueWord store j) }
   entry-of j e = rw (entry-is s store j, e) (λ i. unfold keyOf in record {
@@ -218,7 +210,7 @@ module _ (s : Sheet) (store : List ℕ) (o : Occurrence) (declared : OccurrenceI
       go true e f =
           let entry = entry-of k (same-key _ _ e) in
           let fresh = not-kept _ (rw entry at (passed .1)) in
-          rw entry (kept-after (entriesIn s store k) _ o fresh ∙ unfold kept in rw occurrence-refl)
+          rw entry (kept-after (entriesIn s store k) _ o fresh ∙ unfold kept in rw (occurrence-refl o declared))
       go false e f = kept-other (entriesIn s store k) (entryAt s store k) o (differs e _ refl) ∙ f
 
 -- The first k entries pass their tests.

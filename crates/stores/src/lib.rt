@@ -163,20 +163,12 @@ pub fn cell_below(j: usize, rest: u64) -> usize
     first_cell(j) + (rest % BASE) as usize
 }
 
-// What a cell of the index holds.
-fn held(index: &[u16], cell: usize) -> usize
-    requires { ⌜ cell < length (now index) ⌝ }
-    ensures { λ r. ⌜ r ≡ getD (now (index .entry)) cell 0 ⌝ }
-{
-    index[cell] as usize
-}
-
 // What stands at a cell of the index.
 fn look(store: &[u8], index: &[u16], cell: usize, key: Key) -> Seen
     requires { ⌜ (cell < length (now index)) × (entryWidth * getD (now index) cell 0 ≤ length (now store)) ⌝ }
     ensures { λ r. ⌜ r ≡ seenIn (keyAt (now (store .entry))) key (getD (now (index .entry)) cell 0) ⌝ }
 {
-    let i = held(index, cell);
+    let i = values::cell_at(index, cell);
     if i == 0 {
         return Seen::Empty;
     }
@@ -242,7 +234,7 @@ fn free_below(index: &[u16], key: Key, first: usize) -> usize
     let mut rest = whole / BASE;
     let mut passed = 1;
     while passed <= KEY_DIGITS {
-        let i = held(index, cell);
+        let i = values::cell_at(index, cell);
         if i == 0 {
             return cell;
         }
@@ -260,7 +252,7 @@ pub fn free_cell(index: &[u16], key: Key) -> usize
     ensures { λ r. ⌜ Free (now (index .entry)) key r ⌝ }
 {
     let b = bucket(key);
-    let i = held(index, b);
+    let i = values::cell_at(index, b);
     if i == 0 {
         return b;
     }

@@ -11,7 +11,7 @@ ghost use mathlib.Core.Path.{_≡_};
 ghost use mathlib.Core.Bool.{true};
 ghost use Prim.Native.Nat.{_+_, _*_, _%_, _≤_, _<_};
 ghost use lib.IntN.{_+ℤ_, _-ℤ_};
-ghost use lib.ListN.{length, take, drop};
+ghost use lib.ListN.{length, take, drop, getD};
 ghost use lib.Seq.{sets};
 ghost use Rattle.values.specs.Cells.{emptied};
 ghost use Rattle.values.specs.Layout.{resultAt, parameterAt, kindAt};
@@ -221,6 +221,14 @@ pub fn put_four(s: &mut [u8], at: usize, n: u32)
     s[at + 1] = low(n / 256);
     s[at + 2] = low(n / 256 / 256);
     s[at + 3] = low(n / 256 / 256 / 256);
+}
+
+// What a cell of an index holds.
+pub fn cell_at(index: &[u16], place: usize) -> usize
+    requires { ⌜ place < length (now index) ⌝ }
+    ensures { λ r. ⌜ (r ≡ getD (now (index .entry)) place 0) × (r < 65536) ⌝ }
+{
+    index[place] as usize
 }
 
 // `count` cells of an index from `from` on are emptied.

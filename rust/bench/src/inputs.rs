@@ -181,16 +181,20 @@ pub fn parameterised() -> Input {
     }
 }
 
+/// An expression for attribute 0 of p: up to 1 it is `last`, and else attribute 0 of p - 1.
+fn down_to(last: &[u8]) -> Vec<u8> {
+    let less = of(&THIS, 0, &binary(SUBTRACT, &PARAMETER, &int(1)));
+    if_else(&binary(LE, &PARAMETER, &int(1)), last, &less)
+}
+
 /// Attribute 0 of p is 1 up to 1, and else that of p - 1: that of 64 opens 64 forms, all of one node and attribute. The question is the sum of 16 nodes'
 /// with parameter 64: 6,142 steps, which keep 1,024 figures.
 pub fn deep_parameters() -> Input {
     const NODES: u16 = 16;
-    let less = of(&THIS, 0, &binary(SUBTRACT, &PARAMETER, &int(1)));
-    let down = if_else(&binary(LE, &PARAMETER, &int(1)), &int(1), &less);
     let sheet = [
         attribute(INT_TYPE, INT_TYPE),
         node(0).repeat(NODES.into()),
-        rule(0, 0, &down),
+        rule(0, 0, &down_to(&int(1))),
         end(),
     ];
     Input {
@@ -214,16 +218,10 @@ pub fn nested(k: u8) -> Vec<u8> {
 /// steps.
 pub fn inside_63() -> Input {
     const NODES: u16 = 18;
-    let less = of(&THIS, 0, &binary(SUBTRACT, &PARAMETER, &int(1)));
-    let inside = of(&THIS, 3, &PARAMETER);
     let sheet = [
         attribute(INT_TYPE, INT_TYPE).repeat(4),
         node(0).repeat(NODES.into()),
-        rule(
-            0,
-            0,
-            &if_else(&binary(LE, &PARAMETER, &int(1)), &inside, &less),
-        ),
+        rule(0, 0, &down_to(&of(&THIS, 3, &PARAMETER))),
         rule(0, 1, &PARAMETER),
         rule(0, 2, &nested(1)),
         rule(0, 3, &nested(2)),

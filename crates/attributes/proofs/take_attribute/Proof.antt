@@ -1,7 +1,7 @@
 -- `attributes::take_attribute` meets its contract: by whether the occurrence is found in the store.
 use borrow.Author.Needs.{needs}
 use Rattle.attributes.proofs.CacheWriteCases.{not-kept, free-cell}
-use Rattle.attributes.proofs.Opening.{found-ready, takes-found, found-linked, found-opened, found-still, takes-missing}
+use Rattle.attributes.proofs.Opening.{found-ready, takes-found, found-numbers, kept-linked, forms-opened, found-still, takes-missing}
 use Rattle.attributes.proofs.take_attribute.Statement.{statement}
 use Rattle.attributes.proofs.take_attribute.Tie as tie
 
@@ -28,11 +28,11 @@ take-attribute-spec =
     let at-told = c .before .before .before in
     let at-find = at-told .before .before .before in
     let entry = start at-find in
-    let taken = c .take-found .ensures in (
+    let (same-kept, same-forms) = found-numbers _ _ (entry .args .m) _ _ (c .take-found .ensures) in (
       search takes-found,
       (
-        found-linked _ _ (entry .args .m) _ _ taken _ _ (entry .pre .1 .writes .linked),
-        (found-opened _ _ (entry .args .m) _ _ taken _ _ (entry .pre .1 .opened), search found-still),
+        kept-linked (c .take-found .result) (entry .args .m) _ _ same-kept (entry .pre .1 .writes .linked),
+        (forms-opened (c .take-found .result) (entry .args .m) _ _ same-forms (entry .pre .1 .opened), search found-still),
       ),
     ))
     (λ c. search needs)

@@ -8,7 +8,7 @@ pub figure-spec : {M : Type 1} → statement M
 figure-spec =
     tie.close
     (tie.spec
-    (λ c κs. search needs)  -- number_at(index, figure_place(n, a))
+    (λ c κs. search needs)  -- values::cell_at(index, figure_place(n, a))
     (λ c κs. search needs)
     (λ c. search no-figure)
     (λ c κs. search needs)

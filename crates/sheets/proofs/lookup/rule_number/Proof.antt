@@ -12,6 +12,6 @@ rule-number-spec =
     (λ c κs. search needs)  -- attribute_count(index)
     (λ c κs. search needs)  -- the kind
     (λ c. search needs)
-    (λ c κs. (search kind-small, omega arith))  -- number_at(index, rule_place(k, a))
+    (λ c κs. (search kind-small, omega arith))  -- values::cell_at(index, rule_place(k, a))
     (λ c κs. search rule-within)
     (λ c. cc))

@@ -1,11 +1,11 @@
--- `lookup::number_at` meets its contract: a number of the index is one of two bytes.
+-- `values::cell_at` meets its contract: a cell has two bytes.
 use native.Mathlib.Omega.{arith}
 use borrow.Author.Needs.{needs}
-use Rattle.sheets.proofs.lookup.number_at.Statement.{statement}
-use Rattle.sheets.proofs.lookup.number_at.Tie as tie
+use Rattle.values.proofs.cell_at.Statement.{statement}
+use Rattle.values.proofs.cell_at.Tie as tie
 
-pub number-at-spec : {M : Type 1} → statement M
-number-at-spec =
+pub cell-at-spec : {M : Type 1} → statement M
+cell-at-spec =
     tie.close
     (tie.spec
     (λ c. search needs)
