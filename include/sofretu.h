@@ -26,7 +26,7 @@ extern "C" {
  * may change with it: a caller makes them, lends them, and looks at nothing inside. They need not be cleared: a call asks nothing of what they hold
  * but where it says so. A run reads words of its sofretu_run that it has not written, and any values will do; so give it values once, when it is made
  * (static storage, calloc or {0}), and never again. Memory that was never written has none by C's rules, and tools like valgrind tell of it. */
-#define SOFRETU_SHEET_WORDS 33282
+#define SOFRETU_SHEET_WORDS 33298
 #define SOFRETU_SHEET_NOTES 65536
 #define SOFRETU_STORE_WORDS 9216
 #define SOFRETU_RUN_WORDS 10176
@@ -88,10 +88,10 @@ enum {
     SOFRETU_COMMAND = 2,           /* unknown, misplaced or cut command, no end command, bytes after it */
     SOFRETU_TOO_MANY = 3,          /* a 33rd attribute or a 1,025th node */
     SOFRETU_OPERAND = 4,           /* a command's operand outside its values or undeclared */
-    SOFRETU_SECOND_DEFINITION = 5, /* a second figure for a pair, or a second rule for a kind and attribute */
-    SOFRETU_RULE_FORM = 6,         /* a rule's length or expression is not of the form */
-    SOFRETU_RULE_TYPE = 7,         /* a rule is not of its attribute's type */
-    SOFRETU_NO_DEFINITION = 8,     /* a pair has neither figure nor rule */
+    SOFRETU_SECOND_DEFINITION = 5, /* a second figure for a pair, a second rule for a kind and attribute, or a second forward for a kind */
+    SOFRETU_RULE_FORM = 6,         /* the length or expression of a rule or forward is not of the form, or a forward uses the parameter */
+    SOFRETU_RULE_TYPE = 7,         /* a rule is not of its attribute's type, or a forward is no Node */
+    SOFRETU_NO_DEFINITION = 8,     /* a pair has neither figure nor rule, and its kind no forward */
     /* the program that lends the store */
     SOFRETU_STORE_SHAPE = 9,       /* length no multiple of 12 or over 12,288, or kept above the capacity */
     SOFRETU_STORE_ENTRY = 10,      /* a kept entry is none of this sheet's, its type not the attribute's, or repeats an occurrence */

@@ -1,21 +1,25 @@
 -- AttrApp by its cases: the rule's piece, the figure, the kept value, and the stops before them.
-use mathlib.Core.Bool.{true, false}
+use mathlib.Core.Bool.{Bool, true, false, cond}
 use mathlib.Core.List.{List, []}
 use mathlib.Core.Option.{none, some}
 use mathlib.Core.Path.{_≡_, refl, ap, _∙_, sym}
 use Prim.Native.Nat.{ℕ, zero, suc, _+_, _*_, _-_, _/_, _%_, _≤_, _<_}
 use native.Mathlib.Omega.{arith}
+use lib.Dec.{eqb}
 use lib.ListN.{length, take, drop, getD, set, length-drop}
 use lib.Seq.{length-take-le, take-set-le}
-use borrow.Author.Tests.{le-leb, lt-leb, ne-eqb}
+use borrow.Author.Tests.{eqb-true, eqb-false, le-leb, lt-leb, ne-eqb}
 use Rattle.saiga.specs.Values.{baseOf, isWord, nodeOf, ofBytes, ofWord, toWord}
+use Rattle.saiga.proofs.Preservation.{either}
 use Rattle.saiga.specs.declared.Fields.{Fields}
 use Rattle.saiga.specs.declared.Value.{Value}
 use Rattle.values.specs.Layout.{resultAt}
 use Rattle.sheets.specs.declared.lookup.FoundFigure.{FoundFigure}
 use Rattle.sheets.specs.declared.lookup.FoundFigure.the-variants.{Of, NoFigure}
-use Rattle.sheets.specs.Scan.{figurePlace, figureAt, indexed, pieceAt, figureOf, ruleNumber, IndexedRule}
-use Rattle.sheets.proofs.Lookups.{RuleHere, rule-here}
+use Rattle.sheets.specs.Scan.{figurePlace, figureAt, indexed, pieceAt, figureOf, ruleNumber, forwardNumber, pieceFor, PieceHere}
+use Rattle.sheets.specs.declared.lookup.FoundPiece.{FoundPiece}
+use Rattle.sheets.specs.declared.lookup.FoundPiece.the-variants.{OfRule, OfForward}
+use Rattle.sheets.proofs.Lookups.{rule-here, forward-here}
 use Rattle.stores.specs.declared.Key.{Key}
 use Rattle.stores.specs.declared.Found.{Found}
 use Rattle.stores.specs.declared.Found.the-variants.{Nothing, At}
@@ -37,14 +41,14 @@ use Rattle.opens.specs.declared.Opening.{Opening}
 use Rattle.opens.specs.declared.Opening.the-variants.{Open, Closed}
 use Rattle.opens.specs.Opened.{Opened, FreeFor, isOpenIn, ClosedAt, planted, Plants}
 use Rattle.opens.proofs.Opened.{opened-more}
-use Rattle.engine.specs.Steps.{Memory, Stepped, goes, waits, finishes, stops, answered, cacheWrite, within, limited, openRule, keepsFigure, openFigure, ruleDue, takeKept, attributeDue}
-use Rattle.attributes.specs.Due.{StepReady, RuleReady, OpenReady, FoundReady, AttributeReady}
+use Rattle.engine.specs.Steps.{Memory, Stepped, goes, waits, finishes, stops, answered, cacheWrite, within, limited, forwarding, openPiece, openRule, keepsFigure, openFigure, ruleDue, takeKept, attributeDue}
+use Rattle.attributes.specs.Due.{StepReady, IndexedPiece, RuleReady, OpenReady, FoundReady, AttributeReady}
 
--- ---- The figure, or the rule
+-- ---- The figure, or the rule or forward
 
 -- What the code found of the figure of a node and an attribute.
 module _ (sheet index : List ℕ) (n a : ℕ) (found : FoundFigure) (is : figureOf found ≡ indexed (getD index (figurePlace n a) 0) (figureAt sheet a)) where
-  -- Where it found none, there is a rule.
+  -- Where it found none, there is a rule or a forward.
   pub no-figure : found ≡ NoFigure → getD index (figurePlace n a) 0 ≡ 0
   unfolding indexed
   no-figure none-found = go (getD index (figurePlace n a) 0) (sym is ∙ ap figureOf none-found)
@@ -62,9 +66,9 @@ module _ (sheet index : List ℕ) (n a : ℕ) (found : FoundFigure) (is : figure
       go (suc j) e h = (j, e)
 
 pub rule-indexed : (sheet index store links run : List ℕ) (m : Registers) (n a : ℕ) → AttributeReady sheet index store links run m n a → (found : FoundFigure)
-    → figureOf found ≡ indexed (getD index (figurePlace n a) 0) (figureAt sheet a) → found ≡ NoFigure → IndexedRule sheet index n a
+    → figureOf found ≡ indexed (getD index (figurePlace n a) 0) (figureAt sheet a) → found ≡ NoFigure → IndexedPiece sheet index n a
 rule-indexed sheet index store links run m n a ready found is none-found =
-    record { pair = ready .pair; ruled = ready .defined (no-figure sheet index n a found is none-found) }
+    record { pair = ready .pair; defined = ready .defined (no-figure sheet index n a found is none-found) }
 
 -- A figure is answered with what CacheWrite leaves.
 pub figure-kept : (store run : List ℕ) (m : Registers) (q : Key) (v : Value) (r : Registers) (store′ : List ℕ) (kept′ : ℕ) (f : Fields) → r ≡ answered m kept′ v
@@ -80,57 +84,96 @@ answer-forms m r v kept by = ap (λ m. m .forms) by
 pub step-fits : (run : List ℕ) (m : Registers) → StepReady run m → m .steps + 1 < 18446744073709551616
 step-fits run m ready = ready .counts
 
--- The piece of a rule is as long as its command says, and ends within the sheet.
-module _ (sheet index : List ℕ) (n a : ℕ) (rule : IndexedRule sheet index n a) (piece : List ℕ)
-    (is : piece ≡ pieceAt sheet (ruleNumber sheet index n a - 1)) where
-  abbrev place : ℕ
-  place = ruleNumber sheet index n a
-
+-- The piece is as long as its command says, and ends within the sheet.
+module _ (sheet : List ℕ) (number : ℕ) (here : PieceHere sheet number) (piece : List ℕ) (is : piece ≡ pieceAt sheet (number - 1)) where
   abbrev size : ℕ
-  size = ofBytes (take 2 (drop (place + 2) sheet))
-
-  here : RuleHere sheet place
-  here = rule-here sheet index n a rule _ refl
+  size = ofBytes (take 2 (drop number sheet))
 
   piece-length : length piece ≡ size
+  unfolding pieceAt
   piece-length =
-      rw (is, ← (here .piece))
-      (length-take-le size (drop (place + 4) sheet) (omega (arith, here .room, length-drop (place + 4) sheet)))
+      let length-at : number - 1 + 1 ≡ number = omega (arith, here .starts) in
+      let piece-at : number - 1 + 3 ≡ number + 2 = omega (arith, here .starts) in
+      rw (is, length-at, piece-at) (length-take-le size (drop (number + 2) sheet) (omega (arith, here .room, length-drop (number + 2) sheet)))
 
-  pub rule-short : (start : ℕ) → start ≡ place + 4 → start + length piece < 18446744073709551616
-  rule-short start starts = omega (arith, starts, piece-length, here .room, here .short)
+  pub piece-short : number + 2 + length piece < 18446744073709551616
+  piece-short = omega (arith, piece-length, here .room, here .short)
 
   -- The form's numbers are written, and its frame's word.
-  module _ (run : List ℕ) (m : Registers) (word f : ℕ) (few : m .forms < 64) (ready : StepReady run m) (f-is : f ≡ formPlace (m .forms)) where
+  module _ (run : List ℕ) (m : Registers) (n a word f : ℕ) (few : m .forms < 64) (ready : StepReady run m) (f-is : f ≡ formPlace (m .forms)) where
     abbrev written : List ℕ
     written = set (set (set (set (set run f (n * 32 + a)) (f + 1) word) (f + 2) (m .at)) (f + 3) (m .end)) (m .frames - 1) formKind
 
     top-inside : m .frames - 1 < frameLimit
     top-inside = omega (arith, ready .frame .inside, ready .frame .framed)
 
-    pub rule-runs : (store : List ℕ) (start : ℕ) → start ≡ place + 4
+    pub piece-runs : (store : List ℕ)
         → goes record {
           returning = false;
-          at = start;
-          end = start + length piece;
+          at = number + 2;
+          end = number + 2 + length piece;
           frames = m .frames;
           forms = m .forms + 1;
           kept = m .kept;
           steps = m .steps + 1;
           value = m .value;
         } (memoryOf store written)
-        ≡ openRule sheet index (memoryOf store run) m n a word
-    unfolding openRule
-    rule-runs store start starts =
+        ≡ openPiece sheet (memoryOf store run) m n a word number
+    unfolding openPiece
+    piece-runs store =
         rw (
-          starts,
           piece-length,
           f-is,
           form-opened run (m .forms) (n * 32 + a) word (m .at) (m .end) few store (m .frames - 1) formKind top-inside,
         )
 
-    pub rule-beyond : opensIn written ≡ opensIn run
-    rule-beyond = rw f-is (form-beyond run (m .forms) (n * 32 + a) word (m .at) (m .end) few (m .frames - 1) formKind top-inside)
+    pub piece-beyond : opensIn written ≡ opensIn run
+    piece-beyond = rw f-is (form-beyond run (m .forms) (n * 32 + a) word (m .at) (m .end) few (m .frames - 1) formKind top-inside)
+
+-- What the code found of the rule and the forward of a pair.
+module _ (sheet index : List ℕ) (n a : ℕ) (found : FoundPiece) (is : found ≡ pieceFor (ruleNumber sheet index n a) (forwardNumber sheet index n))
+    (indexed-piece : IndexedPiece sheet index n a) where
+  abbrev rule : ℕ
+  rule = ruleNumber sheet index n a
+
+  abbrev forward : ℕ
+  forward = forwardNumber sheet index n
+
+  -- by whether there is a rule
+  module _ (number : ℕ) where
+    pub found-rule : found ≡ OfRule number → (eqb rule 0 ≡ false) × (rule ≡ number)
+    found-rule of = go (eqb rule 0) refl (sym is ∙ of)
+      where
+        go : (b : Bool) → eqb rule 0 ≡ b → cond b (OfForward forward) (OfRule rule) ≡ OfRule number → (b ≡ false) × (rule ≡ number)
+        go true e h = absurd (let z : _≡_ {A = ℕ} 0 1 = cc in omega arith)
+        go false e h = (refl, cc)
+
+    pub found-forward : found ≡ OfForward number → (eqb rule 0 ≡ true) × (forward ≡ number)
+    found-forward of = go (eqb rule 0) refl (sym is ∙ of)
+      where
+        go : (b : Bool) → eqb rule 0 ≡ b → cond b (OfForward forward) (OfRule rule) ≡ OfForward number → (b ≡ true) × (forward ≡ number)
+        go true e h = (refl, cc)
+        go false e h = absurd (let z : _≡_ {A = ℕ} 0 1 = cc in omega arith)
+
+    pub rule-starts : found ≡ OfRule number → PieceHere sheet number
+    rule-starts of =
+        let (some-rule, number-is) = found-rule of in
+        rw number-is at (rule-here sheet index n a (indexed-piece .pair) (eqb-false rule 0 some-rule))
+
+    pub forward-starts : found ≡ OfForward number → PieceHere sheet number
+    forward-starts of =
+        let (no-rule, number-is) = found-forward of in
+        rw number-is at (forward-here sheet index n a (indexed-piece .pair) (indexed-piece .defined (eqb-true rule 0 no-rule)))
+
+    -- what it comes to
+    module _ (mem : Memory) (m : Registers) (word : ℕ) (stepped : Stepped) where
+      pub rule-is : found ≡ OfRule number → stepped ≡ openPiece sheet mem m n a word number → stepped ≡ openRule sheet index mem m n a word
+      unfolding openRule
+      rule-is of opened = let (some-rule, number-is) = found-rule of in rw (some-rule, number-is) opened
+
+      pub forward-is : found ≡ OfForward number → stepped ≡ forwarding a (openPiece sheet mem m n a word number) → stepped ≡ openRule sheet index mem m n a word
+      unfolding openRule
+      forward-is of opened = let (no-rule, number-is) = found-forward of in rw (no-rule, number-is) opened
 
 -- ---- The index of the open forms
 
@@ -147,17 +190,43 @@ formsCount was waits = was
 formsCount was finishes = was
 formsCount was (stops number) = was
 
--- The form that a rule opened has the key, and those around it are as they were: it is in the index.
+framesCount : ℕ → Stepped → ℕ
+framesCount was (goes m mem) = m .frames
+framesCount was waits = was
+framesCount was finishes = was
+framesCount was (stops number) = was
+
+-- Opening a piece adds no frame: the form's is written in the place of the attribute's.
+pub piece-frames : (sheet run run′ : List ℕ) (m r : Registers) (n a word number : ℕ)
+    → ((s : List ℕ) → goes r (memoryOf s run′) ≡ openPiece sheet (memoryOf s run) m n a word number) → r .frames ≡ m .frames
+unfolding openPiece framesCount
+piece-frames sheet run run′ m r n a word number opened = ap (framesCount 0) (opened [])
+
+-- What a rule or a forward leaves of the forms, of their number and of the kept number is the same.
+module _ (sheet index : List ℕ) (mem : Memory) (m : Registers) (n a word : ℕ) where
+  rule-forms : formsIn-of [] (openRule sheet index mem m n a word) ≡ setFour (mem .forms) (4 * m .forms) (n * 32 + a) word (m .at) (m .end)
+  unfolding openRule openPiece formsIn-of
+  rule-forms = either (λ x. formsIn-of [] x ≡ setFour (mem .forms) (4 * m .forms) (n * 32 + a) word (m .at) (m .end)) (eqb (ruleNumber sheet index n a) 0) (λ _. refl) (λ _. refl)
+
+  rule-count : formsCount 0 (openRule sheet index mem m n a word) ≡ m .forms + 1
+  unfolding openRule openPiece formsCount
+  rule-count = either (λ x. formsCount 0 x ≡ m .forms + 1) (eqb (ruleNumber sheet index n a) 0) (λ _. refl) (λ _. refl)
+
+  rule-kept : keptIn 0 (openRule sheet index mem m n a word) ≡ m .kept
+  unfolding openRule openPiece
+  rule-kept = either (λ x. keptIn 0 x ≡ m .kept) (eqb (ruleNumber sheet index n a) 0) (λ _. refl) (λ _. refl)
+
+-- The form that a rule or a forward opened has the key, and those around it are as they were: it is in the index.
 pub rule-opened : (sheet index run run′ run″ : List ℕ) (m r : Registers) (q : Key) (cell : ℕ) → OpenReady run m q cell
     → RuleReady sheet index run m (q .node) (q .attribute)
     → ((s : List ℕ) → goes r (memoryOf s run′) ≡ openRule sheet index (memoryOf s run) m (q .node) (q .attribute) (q .word))
     → opensIn run′ ≡ opensIn run → Plants run′ run″ (m .forms) cell → Opened (formsIn run″) (opensIn run″) (r .forms)
-unfolding openRule formKey formsIn-of formsCount
+unfolding formKey formsIn-of formsCount
 rule-opened sheet index run run′ run″ m r q cell opening ready opened beyond plants =
     let k = 4 * m .forms in
     let pair = q .node * 32 + q .attribute in
-    let forms-are : formsIn run″ ≡ setFour (formsIn run) k pair (q .word) (m .at) (m .end) = plants .forms ∙ ap (formsIn-of []) (opened []) in
-    let count-is : r .forms ≡ m .forms + 1 = ap (formsCount 0) (opened []) in
+    let forms-are : formsIn run″ ≡ setFour (formsIn run) k pair (q .word) (m .at) (m .end) = plants .forms ∙ ap (formsIn-of []) (opened []) ∙ rule-forms sheet index _ m _ _ _ in
+    let count-is : r .forms ≡ m .forms + 1 = ap (formsCount 0) (opened []) ∙ rule-count sheet index _ m _ _ _ in
     let fits : k + 4 ≤ length (formsIn run) = omega (arith, forms-length run (ready .step .frame .size), ready .few) in
     let small : q .attribute < 32 = omega (arith, ready .rule .pair .known .described .attributes-bound, ready .rule .pair .attribute) in
     let of-node : pair / 32 ≡ q .node = omega arith in
@@ -215,7 +284,7 @@ module _ (budget limit : ℕ) (m : Registers) (next : Stepped) where
       pub limited-goes : m .steps < limit → next ≡ limited budget limit m next
       limited-goes before = rw (lt-leb budget (m .steps) left, lt-leb 64 (m .forms) few, lt-leb limit (m .steps) before)
 
--- An occurrence that has a rule: a circle, or the limits.
+-- An occurrence that has no figure: a circle, or the limits.
 module _ (sheet index store run : List ℕ) (budget limit : ℕ) (m : Registers) (q : Key) where
   abbrev ruleNow : Stepped
   ruleNow = ruleDue sheet index budget limit (memoryOf store run) m (q .node) (q .attribute) (q .word)
@@ -252,10 +321,9 @@ module _ (sheet index store run : List ℕ) (budget limit : ℕ) (m : Registers)
 
 pub rule-keeps : (sheet index run run′ : List ℕ) (m r : Registers) (n a word : ℕ)
     → ((s : List ℕ) → goes r (memoryOf s run′) ≡ openRule sheet index (memoryOf s run) m n a word) → r .kept ≡ m .kept
-unfolding openRule
-rule-keeps sheet index run run′ m r n a word opened = ap (keptIn 0) (opened [])
+rule-keeps sheet index run run′ m r n a word opened = ap (keptIn 0) (opened []) ∙ rule-kept sheet index _ m n a word
 
--- An occurrence that is not kept, by its figure or its rule.
+-- An occurrence that is not kept, by its figure, or its rule or forward.
 module _ (sheet index store links run : List ℕ) (budget limit : ℕ) (m : Registers) (q : Key)
     (ready : AttributeReady sheet index store links run m (q .node) (q .attribute)) (word : q .word ≡ toWord (m .value)) (found : FoundFigure)
     (is : figureOf found ≡ indexed (getD index (figurePlace (q .node) (q .attribute)) 0) (figureAt sheet (q .attribute))) where

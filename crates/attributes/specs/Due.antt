@@ -8,7 +8,7 @@ use lib.ListN.{length, getD}
 use Rattle.saiga.specs.Limits.{nodeLimit, entryWidth, storeLimit, depthLimit}
 use Rattle.saiga.specs.Values.{wordLimit, baseOf, isWord, toWord}
 use Rattle.values.specs.Layout.{resultAt}
-use Rattle.sheets.specs.Scan.{figurePlace, IndexedPair, IndexedRule, ruleNumber}
+use Rattle.sheets.specs.Scan.{figurePlace, IndexedPair, ruleNumber, forwardNumber}
 use Rattle.stores.specs.declared.Key.{Key}
 use Rattle.stores.specs.Walks.{Keyed}
 use Rattle.stores.specs.Keys.{Linked, findKey, valueWord}
@@ -43,9 +43,14 @@ pub record OpenReady (run : List ℕ) (m : Registers) (q : Key) (place : ℕ) : 
   pub closed : keyOpen (formsIn run) (m .forms) q ≡ false
   pub free : FreeFor (opensIn run) (m .forms) q place
 
--- a rule to run, and room for its form
+-- A declared pair of an indexed sheet whose kind has a rule for the attribute, or a forward.
+pub record IndexedPiece (sheet index : List ℕ) (n a : ℕ) : Type 0 where
+  pub pair : IndexedPair sheet index n a
+  pub defined : ruleNumber sheet index n a ≡ 0 → forwardNumber sheet index n ≡ 0 → ⊥
+
+-- a rule or a forward to run, and room for its form
 pub record RuleReady (sheet index : List ℕ) (run : List ℕ) (m : Registers) (n a : ℕ) : Type 0 where
-  pub rule : IndexedRule sheet index n a
+  pub rule : IndexedPiece sheet index n a
   pub step : StepReady run m
   pub few : m .forms < depthLimit
 
@@ -60,7 +65,7 @@ pub record FoundReady (sheet store : List ℕ) (m : Registers) (a j : ℕ) : Typ
 -- open forms are indexed, of which none has a figure.
 pub record AttributeReady (sheet index : List ℕ) (store links run : List ℕ) (m : Registers) (n a : ℕ) : Type 0 where
   pub pair : IndexedPair sheet index n a
-  pub defined : getD index (figurePlace n a) 0 ≡ 0 → ruleNumber sheet index n a ≡ 0 → ⊥
+  pub defined : getD index (figurePlace n a) 0 ≡ 0 → ruleNumber sheet index n a ≡ 0 → forwardNumber sheet index n ≡ 0 → ⊥
   pub kept-word : (j : ℕ) → findKey store (m .kept) record { node = n; attribute = a; word = toWord (m .value) } ≡ some j
       → isWord nodeLimit (baseOf (resultAt sheet a)) (valueWord store j) ≡ true
   pub writes : WriteReady store links (m .kept)

@@ -1,5 +1,5 @@
-// AttrApp and CacheWrite (document 01, "The steps"): an attribute's value is taken from the store, from its figure, or from its rule inside a
-// form; a form's value is kept.
+// AttrApp and CacheWrite (document 01, "The steps"): an attribute's value is taken from the store, from its figure, or from its rule or forward inside
+// a form; a form's value is kept.
 use engine::Limits;
 use engine::Registers;
 use engine::Step;
@@ -13,28 +13,29 @@ use saiga::limits::ATTRIBUTE_LIMIT;
 use saiga::limits::DEPTH_LIMIT;
 use saiga::limits::ENTRY_WIDTH;
 use sheets::lookup::FoundFigure;
+use sheets::lookup::FoundPiece;
 use stores::Found;
 use stores::Key;
 ghost use mathlib.Core.List.{List};
 ghost use mathlib.Core.Option.{none};
 ghost use mathlib.Core.Path.{_≡_};
-ghost use Prim.Native.Nat.{ℕ, _/_, _%_, _≤_};
+ghost use Prim.Native.Nat.{ℕ, _/_, _%_, _≤_, _<_};
 ghost use lib.Dec.{leb};
 ghost use lib.ListN.{length};
-ghost use Rattle.saiga.specs.Limits.{entryWidth};
+ghost use Rattle.saiga.specs.Limits.{entryWidth, depthLimit};
 ghost use Rattle.saiga.specs.Values.{null, baseOf, ofWord, toWord, nodeOf};
 ghost use Rattle.values.specs.Layout.{resultAt};
-ghost use Rattle.sheets.specs.Scan.{IndexedRule};
+ghost use Rattle.sheets.specs.Scan.{PieceHere};
 ghost use Rattle.stores.specs.Keys.{Linked, findKey, keyIn, valueWord, fieldsFor};
 ghost use Rattle.stores.specs.Walks.{Keyed, Free};
 ghost use Rattle.values.specs.Packed.{valueIn};
-ghost use Rattle.engine.specs.Steps.{Memory, goes, answered as answeredBy, cacheWrite, closeForm, within, limited, openRule, keepsFigure, ruleDue, takeKept, attributeDue};
+ghost use Rattle.engine.specs.Steps.{Memory, goes, answered as answeredBy, cacheWrite, closeForm, within, limited, openPiece, openRule, keepsFigure, ruleDue, takeKept, attributeDue};
 ghost use Rattle.engine.specs.Decode.{formsIn, opensIn};
 ghost use Rattle.engine.specs.Ready.{memoryOf, FrameReady};
 ghost use Rattle.opens.specs.Opened.{Opened};
 ghost use Rattle.engine.specs.CodeSteps.{steppedOf, keptAfter, formsAfter, Still};
 ghost use Rattle.engine.specs.FrameWords.{heldAttribute, heldNode};
-ghost use Rattle.attributes.specs.Due.{WriteReady, CloseReady, RuleReady, FoundReady, AttributeReady};
+ghost use Rattle.attributes.specs.Due.{WriteReady, CloseReady, StepReady, IndexedPiece, RuleReady, FoundReady, AttributeReady};
 
 // Whether a store with so many kept entries has no room for one more.
 fn is_full(store: &[u8], kept: usize) -> bool
@@ -101,17 +102,17 @@ pub fn close_form(store: &mut [u8], links: &mut [u16], memory: &[u64], m: Regist
     }
 }
 
-// AttrApp by a rule: its piece runs inside a form, and the form's words say where the piece around it goes on.
-fn open_rule(sheet: &[u8], index: &[u16], memory: &mut [u64], m: Registers, key: Key) -> Registers
-    requires { ⌜ RuleReady (now sheet) (now index) (now memory) m (key .node) (key .attribute) ⌝ }
+// The piece whose length stands at `number` runs inside a form, and the form's words say where the piece around it goes on.
+fn open_piece(sheet: &[u8], memory: &mut [u64], m: Registers, key: Key, number: usize) -> Registers
+    requires { ⌜ PieceHere (now sheet) number × StepReady (now memory) m × (m .forms < depthLimit) ⌝ }
     ensures { λ r. ⌜ ((store : List ℕ) → goes r (memoryOf store (now (memory .exit)))
-        ≡ openRule (now (sheet .entry)) (now (index .entry)) (memoryOf store (now (memory .entry))) m (key .node) (key .attribute) (key .word)) ⌝ }
+        ≡ openPiece (now (sheet .entry)) (memoryOf store (now (memory .entry))) m (key .node) (key .attribute) (key .word) number) ⌝ }
     ensures { λ _. ⌜ opensIn (now (memory .exit)) ≡ opensIn (now (memory .entry)) ⌝ }
 {
     let n = key.node as usize;
     let a = key.attribute as usize;
-    let piece = sheets::lookup::rule(sheet, index, n, a);
-    let start = sheets::lookup::rule_start(sheet, index, n, a);
+    let piece = sheets::lookup::piece(sheet, number);
+    let start = number + 2;
     let f = engine::frames::form_place(m.forms);
     memory[f] = (n * ATTRIBUTE_LIMIT + a) as u64;
     memory[f + 1] = key.word as u64;
@@ -129,6 +130,28 @@ fn open_rule(sheet: &[u8], index: &[u16], memory: &mut [u64], m: Registers, key:
         kept: m.kept,
         steps: m.steps + 1,
         value,
+    }
+}
+
+// AttrApp by a rule, or else by a forward, whose frame stands on the form.
+fn open_rule(sheet: &[u8], index: &[u16], memory: &mut [u64], m: Registers, key: Key) -> Registers
+    requires { ⌜ RuleReady (now sheet) (now index) (now memory) m (key .node) (key .attribute) ⌝ }
+    ensures { λ r. ⌜ ((store : List ℕ) → goes r (memoryOf store (now (memory .exit)))
+        ≡ openRule (now (sheet .entry)) (now (index .entry)) (memoryOf store (now (memory .entry))) m (key .node) (key .attribute) (key .word)) ⌝ }
+    ensures { λ _. ⌜ opensIn (now (memory .exit)) ≡ opensIn (now (memory .entry)) ⌝ }
+{
+    let found = sheets::lookup::found_piece(
+        sheet,
+        index,
+        key.node as usize,
+        key.attribute as usize,
+    );
+    match found {
+        FoundPiece::OfRule(number) => open_piece(sheet, memory, m, key, number),
+        FoundPiece::OfForward(number) => {
+            let next = open_piece(sheet, memory, m, key, number);
+            engine::push_forward(memory, next, key.attribute as u64)
+        }
     }
 }
 
@@ -164,8 +187,8 @@ fn take_figure(
     Step::Goes(engine::answered(m, kept, v))
 }
 
-// AttrApp of an occurrence that has a rule and is not kept: a circle, the limits, then the rule, whose form is put into its free place in the index of the
-// open forms.
+// AttrApp of an occurrence that has no figure and is not kept: a circle, the limits, then the rule or the forward, whose form is put into its free place in
+// the index of the open forms.
 fn take_rule(
     sheet: &[u8],
     index: &[u16],
@@ -174,7 +197,7 @@ fn take_rule(
     m: Registers,
     key: Key,
 ) -> Step
-    requires { ⌜ Keyed key × IndexedRule (now sheet) (now index) (key .node) (key .attribute) ⌝ }
+    requires { ⌜ Keyed key × IndexedPiece (now sheet) (now index) (key .node) (key .attribute) ⌝ }
     requires { ⌜ FrameReady (now memory) m × Opened (formsIn (now memory)) (opensIn (now memory)) (m .forms) ⌝ }
     ensures { λ r. ⌜ ((store : List ℕ) → steppedOf r (memoryOf store (now (memory .exit)))
         ≡ ruleDue (now (sheet .entry)) (now (index .entry)) (limits .budget) (limits .pause) (memoryOf store (now (memory .entry))) m
@@ -200,7 +223,7 @@ fn take_rule(
     Step::Goes(next)
 }
 
-// AttrApp of an occurrence that is not kept: its figure, or its rule. Only a rule's form can be open, so a figure is no circle.
+// AttrApp of an occurrence that is not kept: its figure, or its rule or forward. A figure's form is never open, so a figure is no circle.
 fn take_missing(
     sheet: &[u8],
     index: &[u16],

@@ -63,7 +63,7 @@ module _ {sheet index notes question store links memory : List ℕ} {kept budget
           kept = kept;
           whole = whole;
           invariant = begins-at;
-          tracks = tracks-start sheet index notes (memoryOf store memory) first (ap (λ m. m .forms) is) (a .noted .rules) (a .noted .size);
+          tracks = tracks-start sheet index notes (memoryOf store memory) first (ap (λ m. m .forms) is) (a .noted .pieces) (a .noted .size);
           permitted = found .permitted;
           linked = rw is (a .linked);
           opened = rw is (opened-none (formsIn memory) (opensIn memory) (opens-length memory (a .memory-length)));

@@ -235,7 +235,7 @@ module _ {sheet index : List ℕ} {r : SheetCheck} (checked : Checks sheet r ind
   unfolding checkOf
   sheet-noted {notes} size noted s e =
       let is : r ≡ checkOf (accepted s) = checked .checked ∙ ap checkOf e in
-      record { rules = rw is at noted; size = omega (arith, checked .indexes s e .described .short) }
+      record { pieces = rw is at noted; size = omega (arith, checked .indexes s e .described .short) }
 
   module _ (m : Lent) (c : Call) {notes links : List ℕ} (notes-size : length notes ≡ sheetLimit) (noted : ChecksNotes sheet r index notes) where
     pub sheet-stops : {number place : ℕ} → r ≡ for-sheet.Refused number place → length links ≡ linksSize

@@ -7,7 +7,7 @@ use Rattle.saiga.specs.Sheet.{Sheet, accepted, checkSheet}
 use Rattle.saiga.specs.Caching.{Entry}
 use Rattle.saiga.specs.Store.{checkStore}
 use Rattle.sheets.specs.Scan.{Indexed}
-use Rattle.sheets.specs.Notes.{RulesNoted}
+use Rattle.sheets.specs.Notes.{PiecesNoted}
 use Rattle.stores.specs.Keys.{Linked}
 
 pub record PreparedSheet (sheet index : List ℕ) : Type 0 where
@@ -17,7 +17,7 @@ pub record PreparedSheet (sheet index : List ℕ) : Type 0 where
 
 -- the notes that a question's run looks at besides
 pub record NotedSheet (sheet index notes : List ℕ) : Type 0 where
-  pub rules : RulesNoted sheet index notes
+  pub pieces : PiecesNoted sheet index notes
   pub size : length sheet ≤ length notes
 
 pub record PreparedStore (sheet store : List ℕ) (kept : ℕ) (links : List ℕ) : Type 0 where

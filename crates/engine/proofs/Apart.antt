@@ -13,12 +13,12 @@ use Rattle.saiga.specs.declared.Applied.{Applied}
 use Rattle.saiga.specs.declared.Applied.the-variants.{Gives as gives, Overflow as overflows}
 use Rattle.saiga.specs.Values.{null, truth, nodeOf, apply}
 use Rattle.saiga.specs.Expressions.{Head, base-literal, function-literal, if-head, application-head, attribute-head, this-head, parameter-head, no-head, headOf}
-use Rattle.saiga.specs.Sheet.{Sheet, Definition, undefined, figure, piece-of, definition}
+use Rattle.saiga.specs.Sheet.{Sheet, Definition, undefined, figure, piece-of, forward-of, definition}
 use Rattle.saiga.specs.Terms.{Occurrence}
 use Rattle.saiga.specs.Caching.{Entry, sameOccurrence, kept, isKept, write, Counted, isOpen, circular, tooDeep}
 use Rattle.saiga.proofs.Equality.{same-occurrence}
 use Rattle.saiga.proofs.Keeping.{write-other}
-use Rattle.engine.specs.Machine.{Next, by-move, by-step, Frame, on-if, on-left, on-skip, on-right, on-node, on-parameter, on-form, Mode, evaluating, returning, Machine, openForms, readHead, within, branch, applicationDue, defined, applied, attributeDue, give, readNext, moveOf, move}
+use Rattle.engine.specs.Machine.{Next, by-move, by-step, Frame, on-if, on-left, on-skip, on-right, on-node, on-parameter, on-forward, on-form, Mode, evaluating, returning, Machine, openForms, readHead, within, branch, applicationDue, defined, applied, attributeDue, give, readNext, moveOf, move}
 use Rattle.engine.specs.Good.{Apart}
 use Rattle.engine.proofs.Bounds.{Onward, cond-onward}
 
@@ -41,11 +41,11 @@ apart-write : (sheet : Sheet) (C : ℕ) (s : List Entry) (os : List Occurrence) 
     → Apart sheet (write C s record { occurrence = o; value = v }) os
 unfolding isOpen
 apart-write sheet C s [] o v closed a = tt
-apart-write sheet C s (p ∷ os) o v closed (absent, different, rule, rest) =
+apart-write sheet C s (p ∷ os) o v closed (absent, different, unfigured, rest) =
     let (other, below) = neither (sameOccurrence p o) (isOpen os o) closed in (
       write-other C s record { occurrence = o; value = v } p (other-way p o other) ∙ absent,
       different,
-      rule,
+      unfigured,
       apart-write sheet C s os o v below rest,
     )
 
@@ -54,13 +54,10 @@ pub figure-closed : (sheet : Sheet) (s : List Entry) (os : List Occurrence) (o :
     → Apart sheet s os → isOpen os o ≡ false
 unfolding isOpen
 figure-closed sheet s [] o v figured a = refl
-figure-closed sheet s (p ∷ os) o v figured (absent, different, (piece, rule), rest) = go (sameOccurrence p o) refl (figure-closed sheet s os o v figured rest)
+figure-closed sheet s (p ∷ os) o v figured (absent, different, unfigured, rest) = go (sameOccurrence p o) refl (figure-closed sheet s os o v figured rest)
   where
     go : (b : Bool) → sameOccurrence p o ≡ b → isOpen os o ≡ false → (b || isOpen os o) ≡ false
-    go true e below =
-        let same = same-occurrence p o e in
-        let both : figure v ≡ piece-of piece = sym figured ∙ rw same at rule in
-        absurd (let z : _≡_ {A = ℕ} 0 1 = cc in omega arith)
+    go true e below = absurd (unfigured v (rw (same-occurrence p o e) figured))
     go false e below = below
 
 -- An occurrence that is not kept and no circle is not open.
@@ -111,7 +108,8 @@ module _ (s : Sheet) (capacity budget : ℕ) (m : Machine) where
     unfolding defined openForms
     defined-apart o absent closed undefined e = apart-write s capacity (m .entries) (openForms fs) o _ closed a
     defined-apart o absent closed (figure v) e = apart-write s capacity (m .entries) (openForms fs) o v closed a
-    defined-apart o absent closed (piece-of p) e = (absent, closed, (p, e), a)
+    defined-apart o absent closed (piece-of p) e = (absent, closed, (λ v h. let z : _≡_ {A = ℕ} 0 1 = cc in omega arith), a)
+    defined-apart o absent closed (forward-of p) e = (absent, closed, (λ v h. let z : _≡_ {A = ℕ} 0 1 = cc in omega arith), a)
 
     applied-apart : (o : Occurrence) → circular (m .entries) (openForms fs) o ≡ false → (k : Option Value) → kept (m .entries) o ≡ k
         → Stays (applied s capacity budget m o fs k)
@@ -137,6 +135,7 @@ module _ (s : Sheet) (capacity budget : ℕ) (m : Machine) where
   give-apart v (on-right f ∷ fs) a = application-apart fs a (apply f v)
   give-apart v (on-node n ∷ fs) a = a
   give-apart v (on-parameter n i ∷ fs) a = attribute-apart fs a record { node = nodeOf n; attribute = i; parameter = v }
+  give-apart v (on-forward n ∷ fs) a = a
   give-apart v (on-form o outer ∷ fs) a = apart-write s capacity (m .entries) (openForms fs) o v (a .1) (a .3)
 
   move-apart : Stays m → (mode : Mode) → Onward Stays (moveOf s capacity budget m mode)

@@ -1,22 +1,22 @@
 -- AttrApp and CacheWrite on registers and memory are moves of the machine.
-use mathlib.Core.Bool.{Bool, true, false, false≢true}
+use mathlib.Core.Bool.{Bool, true, false}
 use mathlib.Core.Bool as Bool
 use mathlib.Core.Option.{Option, none, some, Option·none-ne-some}
 use mathlib.Core.List.{List, _∷_}
 use mathlib.Core.Logic.{_⊎_, inl, inr}
 use mathlib.Core.Path.{_≡_, refl, sym, _∙_, ap}
 use Prim.Native.Nat.{ℕ, zero, suc, _+_, _*_, _-_, _/_, _%_, _≤_, _<_}
-use native.Mathlib.Nat.{eq-or-lt-of-le}
+use native.Mathlib.Nat.{add-zero, eq-or-lt-of-le, mod-lt}
 use native.Mathlib.Omega.{arith}
 use native.Mathlib.Numerals.{add-one}
-use lib.Dec.{eqb}
+use lib.Dec.{eqb, eqb·suc-zero, lit<}
 use lib.ListN.{length, take, drop, getD, set, length-set}
 use lib.Seq.{getD-set-same, getD-set-other}
-use borrow.Author.Tests.{lt-ltb, le-ltb, eq-eqb, ne-eqb}
+use borrow.Author.Tests.{lt-ltb, le-ltb, eq-eqb}
 use Rattle.saiga.specs.Values.{nodeT, base, null, nodeOf, baseOf, ofBytes, ofWord, toWord}
 use Rattle.saiga.specs.declared.Value.{Value}
 use Rattle.saiga.specs.Types.{attributeAt}
-use Rattle.saiga.specs.Sheet.{Sheet, nodeCount, attributeCount, Definition, figure, piece-of, ruled, figured, definition, isDefined, accepted}
+use Rattle.saiga.specs.Sheet.{Sheet, nodeCount, attributeCount, Definition, figure, piece-of, forward-of, forwarded, ruled, figured, definition, accepted}
 use Rattle.saiga.specs.Terms.{Occurrence, val, cond, attr, form}
 use Rattle.saiga.specs.Plain.{on-null}
 use Rattle.saiga.specs.Caching.{Entry, kept, write, AttrApp, as-plain, circle, spent, depth, isOpen, circular, tooDeep}
@@ -25,25 +25,25 @@ use Rattle.saiga.specs.Store.{checkStore}
 use Rattle.saiga.specs.Ask.{reasonNumber}
 use Rattle.saiga.specs.Sound.{IsA, OccurrenceIn, RunningIn}
 use Rattle.saiga.proofs.FourBytes.{word-in}
-use Rattle.saiga.proofs.Accepted.{pair-defined}
 use Rattle.saiga.proofs.Preservation.{declared, either}
-use Rattle.sheets.specs.Scan.{figurePlace, figureAt, pieceAt, indexed, ruleNumber}
-use Rattle.sheets.proofs.Indexed.{attribute-by-index, kind-by-index, definition-by-index}
+use Rattle.sheets.specs.Scan.{figurePlace, figureAt, pieceAt, indexed, ruleNumber, forwardNumber, IndexedPair, PieceHere}
+use Rattle.sheets.proofs.Indexed.{attribute-by-index, definition-by-index}
+use Rattle.sheets.proofs.Lookups.{rule-here, forward-here, piece-there}
 use Rattle.values.proofs.Declared.{attributeIn}
 use Rattle.stores.specs.Keys.{findKey, fieldsFor}
 use Rattle.engine.specs.RunningPiece.{pieceIn, restOf}
 use Rattle.values.specs.Packed.{valueIn}
-use Rattle.engine.specs.Machine.{Frame, on-parameter, on-form, returning, Machine, openForms, plug, termOf, stateOf, moves, takes, counted, defined, applied, give, moveOf, move}
+use Rattle.engine.specs.Machine.{Frame, on-parameter, on-forward, on-form, evaluating, returning, Machine, openForms, plug, termOf, stateOf, moves, takes, counted, defined, applied, give, moveOf, move}
 use Rattle.engine.specs.Machine as Machine
-use Rattle.engine.specs.FrameWords.{kindOf, ifKind, leftKind, skipKind, rightKind, nodeKind, parameterKind, formKind, heldAttribute, heldNode}
+use Rattle.engine.specs.FrameWords.{kindOf, parameterKind, formKind, heldAttribute, heldNode, forwardWord}
 use Rattle.engine.specs.Decode.{sheetOf, entriesOf, plainFrame, formOccurrence, formRest, framesIn, modeOf, machineOf, Placed}
-use Rattle.engine.specs.Steps.{Memory, Stepped, goes, answered, cacheWrite, closeForm, openRule, openFigure, takeKept, attributeDue}
+use Rattle.engine.specs.Steps.{Memory, Stepped, goes, answered, cacheWrite, closeForm, forwarding, openPiece, openRule, openFigure, takeKept, attributeDue}
 use Rattle.engine.specs.OpenKeys.{formKey, keyOpen}
 use Rattle.engine.specs.declared.Registers.{Registers}
 use Rattle.engine.proofs.Bounds.{represents-sized, frames-fit}
 use Rattle.engine.specs.Machine.{Next, by-move, by-step}
 use Rattle.engine.specs.Represents.{machineIn, Represents, Matches}
-use Rattle.engine.proofs.Decoding.{frames-count}
+use Rattle.engine.proofs.Decoding.{parameter-kind, forward-word, pushed-frame, top-frame, frames-count}
 use Rattle.engine.proofs.StoreWritten.{keyOf, ByKey, Written, cache-write}
 use Rattle.engine.proofs.Apart.{figure-closed}
 use Rattle.engine.proofs.Limited.{within-holds, missing-holds}
@@ -305,7 +305,7 @@ module _ {sheet index question : List ℕ} {mem : Memory} {m : Registers} (r : R
         closes capacity budget limit room _ (rw form-key at (write-at o (m .value) (form-typed .0) (form-typed .1)))
 
   -- AttrApp: the frame has the node and the attribute's number
-  module _ (late : parameterKind ≤ kindOf word) (no-form : kindOf word ≡ formKind → ⊥) where
+  module _ (is-parameter : kindOf word ≡ parameterKind) where
     abbrev held : Value
     held = valueIn (heldNode word)
 
@@ -319,10 +319,7 @@ module _ {sheet index question : List ℕ} {mem : Memory} {m : Registers} (r : R
     under = below (m .forms)
 
     parameter-frames : framesIn sheet question (mem .words) (mem .forms) (m .frames) (m .forms) ≡ on-parameter held a ∷ under
-    unfolding plainFrame
-    parameter-frames =
-        innermost-frame sheet question (mem .words) (mem .forms) (m .frames) (m .forms) framed
-        ∙ rw (ne-eqb (kindOf word) formKind no-form, ne-eqb (kindOf word) ifKind (omega arith), ne-eqb (kindOf word) leftKind (omega arith), ne-eqb (kindOf word) skipKind (omega arith), ne-eqb (kindOf word) rightKind (omega arith), ne-eqb (kindOf word) nodeKind (omega arith))
+    parameter-frames = top-frame sheet question (mem .forms) (mem .words) (m .frames) (m .forms) framed (parameter-kind word is-parameter)
 
     under-counted : length (openForms under) ≡ m .forms
     unfolding openForms
@@ -342,8 +339,16 @@ module _ {sheet index question : List ℕ} {mem : Memory} {m : Registers} (r : R
       pub due-in : OccurrenceIn (nodeCount s) (s .attributes) due
       due-in = record { node-declared = declared (parameter-typed .1) no-null; attribute-declared = parameter-typed .0; parameter-in = parameter-typed .2 }
 
+      pub pair-indexed : IndexedPair sheet index (nodeOf held) a
+      pair-indexed = record { sheet = s; known = r .index-of; node = due-in .node-declared; attribute = due-in .attribute-declared }
+
+      pub some-piece : getD index (figurePlace (nodeOf held) a) 0 ≡ 0 → ruleNumber sheet index (nodeOf held) a ≡ 0 → forwardNumber sheet index (nodeOf held) ≡ 0 → ⊥
+      unfolding pair-indexed
+      some-piece = piece-there sheet index _ a pair-indexed (r .accepts)
+
       pub definition-at : definition s (nodeOf held) a
-          ≡ figured (indexed (getD index (figurePlace (nodeOf held) a) 0) (figureAt sheet a)) (ruled (indexed (ruleNumber sheet index (nodeOf held) a) (pieceAt sheet)))
+          ≡ figured (indexed (getD index (figurePlace (nodeOf held) a) 0) (figureAt sheet a))
+          (ruled (indexed (ruleNumber sheet index (nodeOf held) a) (pieceAt sheet)) (forwarded (indexed (forwardNumber sheet index (nodeOf held)) (pieceAt sheet))))
       definition-at = rw (← (r .index-of .attributes-in)) at (definition-by-index sheet s index (r .index-of .described) (nodeOf held) a (due-in .node-declared) (due-in .attribute-declared))
 
       parameter-is : ofWord (baseOf (getD sheet (3 * a + 2) 0)) (toWord (m .value)) ≡ m .value
@@ -444,41 +449,47 @@ module _ {sheet index question : List ℕ} {mem : Memory} {m : Registers} (r : R
           form-fits : 4 * m .forms + 4 ≤ length (mem .forms)
           form-fits = omega arith
 
-          words-fit : m .frames ≤ length (mem .words)
+          words-fit : m .frames < length (mem .words)
           unfolding machineOf
           words-fit = omega (arith, frames-fit (represents-sized r), frames-count sheet question (mem .forms) (mem .words) (m .frames) (m .forms))
 
           abbrev forms′ : List ℕ
           forms′ = setFour (mem .forms) (4 * m .forms) (nodeOf held * 32 + a) (toWord (m .value)) (m .at) (m .end)
 
-          due-frames : framesIn sheet question (set (mem .words) (m .frames - 1) 6) forms′ (m .frames) (m .forms + 1)
+          due-frames : framesIn sheet question (set (mem .words) (m .frames - 1) formKind) forms′ (m .frames) (m .forms + 1)
               ≡ on-form due (restOf sheet question (m .forms) (m .at) (m .end)) ∷ under
           due-frames =
               rw (parameter-is no-null) at
               (opened-frames sheet question (mem .words) (mem .forms) (m .frames) (m .forms) (nodeOf held) a (toWord (m .value)) (m .at) (m .end) (omega arith) form-fits
-              framed words-fit under-counted)
+              framed (omega (arith, words-fit)) under-counted)
 
-          -- a piece of the sheet runs inside a form
-          runs : (start end : ℕ) → definition s (nodeOf held) a ≡ piece-of (restOf sheet question (m .forms + 1) start end) → start ≤ end → end ≤ length sheet
+          abbrev formed : List ℕ
+          formed = set (mem .words) (m .frames - 1) formKind
+
+          -- A piece of the sheet runs inside a form. So many frames are then around it.
+          runs : (n : ℕ) (words : List ℕ) (fs : List Frame) (start end : ℕ) (d : Definition) → definition s (nodeOf held) a ≡ d
+              → defined s capacity budget M due under d ≡ counted s capacity budget M evaluating (restOf sheet question (m .forms + 1) start end) fs (M .entries)
+              → framesIn sheet question words forms′ n (m .forms + 1) ≡ fs → openForms fs ≡ due ∷ openForms under → length words ≡ length (mem .words)
+              → start ≤ end → end ≤ length sheet
               → P (goes record {
                 returning = false;
                 at = start;
                 end = end;
-                frames = m .frames;
+                frames = n;
                 forms = m .forms + 1;
                 kept = m .kept;
                 steps = m .steps + 1;
                 value = m .value;
-              } record { store = mem .store; words = set (mem .words) (m .frames - 1) 6; forms = forms′ })
-          unfolding machineOf modeOf pieceIn openForms defined
-          runs start end is in-order inside =
+              } record { store = mem .store; words = words; forms = forms′ })
+          unfolding machineOf modeOf pieceIn
+          runs n words fs start end d is opens are open-forms size in-order inside =
               let h = r .holds in (
-                takes-next shallow (by-definition _ is ∙ same-machine refl refl (sym due-frames) refl (sym (add-one (m .steps)))),
+                takes-next shallow (by-definition d is ∙ opens ∙ same-machine refl refl (sym are) refl (sym (add-one (m .steps)))),
                 record {
-                  words-size = length-set (mem .words) (m .frames - 1) 6 ∙ h .words-size;
+                  words-size = size ∙ h .words-size;
                   forms-size = simp length-set (h .forms-size);
                   few = omega arith;
-                  counted = rw due-frames (omega (arith, under-counted));
+                  counted = rw (are, open-forms) (omega (arith, under-counted));
                   from = in-order;
                   to = rw add-one inside;
                   placed = opened-placed sheet question (mem .words) (mem .forms) (m .frames) (m .forms) (nodeOf held) a (toWord (m .value)) (m .at) (m .end) (omega arith) form-fits
@@ -489,27 +500,51 @@ module _ {sheet index question : List ℕ} {mem : Memory} {m : Registers} (r : R
                 room,
               )
 
-          -- a rule, of which an accepted sheet has one where it has no figure
-          opens : getD index (figurePlace (nodeOf held) a) 0 ≡ 0 → (i : ℕ) → ruleNumber sheet index (nodeOf held) a ≡ i
+          -- the piece whose length stands at a number
+          abbrev size : ℕ → ℕ
+          size number = ofBytes (take 2 (drop number sheet))
+
+          piece-rest : (at : ℕ) → pieceAt sheet at ≡ restOf sheet question (m .forms + 1) (suc at + 2) (suc at + 2 + size (suc at))
+          unfolding pieceAt restOf pieceIn
+          piece-rest at =
+              let length-at : at + 1 ≡ suc at = omega arith in
+              let piece-at : at + 3 ≡ suc at + 2 = omega arith in
+              let width : suc at + 2 + size (suc at) - (suc at + 2) ≡ size (suc at) = omega arith in
+              rw (length-at, piece-at, width, add-one)
+
+          rule-opens : getD index (figurePlace (nodeOf held) a) 0 ≡ 0 → (at : ℕ) → ruleNumber sheet index (nodeOf held) a ≡ suc at
+              → P (openPiece sheet mem m (nodeOf held) a (toWord (m .value)) (suc at))
+          unfolding openPiece indexed figured ruled defined openForms machineOf
+          rule-opens no-figure at e =
+              let here : PieceHere sheet (suc at) = rw e at (rule-here sheet index _ a (pair-indexed no-null) (λ z. omega arith)) in
+              runs (m .frames) formed (on-form due (M .rest) ∷ under) _ _ (piece-of (pieceAt sheet at)) (definition-at no-null ∙ rw (no-figure, e))
+              (rw (piece-rest at)) due-frames refl (length-set (mem .words) (m .frames - 1) formKind) (omega arith) (here .room)
+
+          forward-opens : getD index (figurePlace (nodeOf held) a) 0 ≡ 0 → ruleNumber sheet index (nodeOf held) a ≡ 0 → (at : ℕ)
+              → forwardNumber sheet index (nodeOf held) ≡ suc at
+              → P (forwarding a (openPiece sheet mem m (nodeOf held) a (toWord (m .value)) (suc at)))
+          unfolding openPiece indexed figured ruled forwarded defined openForms machineOf
+          forward-opens no-figure no-rule at e =
+              let here : PieceHere sheet (suc at) = rw e at (forward-here sheet index _ a (pair-indexed no-null) (λ z. omega arith)) in
+              let room : m .frames < length formed = omega (arith, words-fit, length-set (mem .words) (m .frames - 1) formKind) in
+              rw (add-zero (suc at + 2))
+              (runs (m .frames + 1) (set formed (m .frames) (forwardWord a)) (on-forward a ∷ on-form due (M .rest) ∷ under) _ _ (forward-of (pieceAt sheet at))
+              (definition-at no-null ∙ rw (no-figure, no-rule, e)) (rw (piece-rest at))
+              (pushed-frame sheet question forms′ formed (m .frames) (m .forms + 1) room (forward-word (mod-lt _ (lit< tt))) ∙ ap (λ fs. on-forward a ∷ fs) due-frames)
+              refl (simp length-set) (omega arith) (here .room))
+
+          -- a rule, or else a forward, of which an accepted sheet has one where it has no figure
+          opens : getD index (figurePlace (nodeOf held) a) 0 ≡ 0 → (i j : ℕ) → ruleNumber sheet index (nodeOf held) a ≡ i → forwardNumber sheet index (nodeOf held) ≡ j
               → P (openRule sheet index mem m (nodeOf held) a (toWord (m .value)))
-          unfolding openRule indexed figured ruled isDefined pieceIn restOf pieceAt
-          opens no-figure zero e =
-              let o-in = due-in no-null in
-              absurd (false≢true (rw (definition-at no-null, no-figure, e) at (pair-defined sheet s (r .accepts) (nodeOf held) a (o-in .node-declared) (o-in .attribute-declared))))
-          opens no-figure (suc at) e =
-              let p = due-in no-null .node-declared in
-              let q = due-in no-null .attribute-declared in
-              let kind = kind-by-index sheet s index (r .index-of .described) (nodeOf held) p in
-              let fits = r .index-of .described .rule-fits _ a at (r .index-of .described .kinds-bound (nodeOf held) p) q (rw (kind, ← (r .index-of .attributes-in)) e) in
-              let length-at : suc at + 2 ≡ at + 3 = omega arith in
-              let piece-at : suc at + 4 ≡ at + 5 = omega arith in
-              let width : at + 5 + ofBytes (take 2 (drop (at + 3) sheet)) - (at + 5) ≡ ofBytes (take 2 (drop (at + 3) sheet)) = omega arith in
-              runs _ _ (definition-at no-null ∙ rw (no-figure, e, length-at, piece-at, width, add-one)) (omega arith) (rw (e, length-at, piece-at) (fits .0))
+          unfolding openRule
+          opens no-figure zero zero e f = absurd (some-piece no-null no-figure e f)
+          opens no-figure zero (suc at) e f = rw (e, f) (forward-opens no-figure e at f)
+          opens no-figure (suc at) j e f = rw (e, eqb·suc-zero) (rule-opens no-figure at e)
 
           figures : (i : ℕ) → getD index (figurePlace (nodeOf held) a) 0 ≡ i
               → P (openFigure sheet index mem m (nodeOf held) a (toWord (m .value)) (indexed i (figureAt sheet a)))
           unfolding openFigure indexed figured defined
-          figures zero e = opens e _ refl
+          figures zero e = opens e _ _ refl refl
           figures (suc at) e =
               answers shallow _ _ _ (write-at due (figureAt sheet a at) (due-in no-null) (figure-in no-null at e))
               (by-definition (figure (figureAt sheet a at)) (definition-at no-null ∙ rw e) ∙ same-machine refl refl refl (rw (entries-are, ← room)) refl)

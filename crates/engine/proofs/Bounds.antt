@@ -3,7 +3,7 @@ use mathlib.Core.Bool.{Bool, true, false, _&&_}
 use mathlib.Core.Bool as Bool
 use mathlib.Core.Option.{Option, none, some}
 use mathlib.Core.List.{List, [], _∷_}
-use mathlib.Core.Path.{_≡_, refl}
+use mathlib.Core.Path.{_≡_, refl, ap}
 use Prim.Native.Nat.{ℕ, _+_, _*_, _-_, _≤_, _<_}
 use native.Mathlib.Omega.{arith}
 use lib.Dec.{leb, ltb, eqb}
@@ -15,17 +15,18 @@ use Rattle.saiga.specs.declared.Applied.{Applied}
 use Rattle.saiga.specs.declared.Applied.the-variants.{Gives as gives, Overflow as overflows}
 use Rattle.saiga.specs.Values.{null, truth, nodeOf, apply}
 use Rattle.saiga.specs.Expressions.{Expr, Scope, Head, base-literal, function-literal, if-head, application-head, attribute-head, this-head, parameter-head, no-head, headOf, operandWidth, readExpr, no-expression, expression, readWhole}
-use Rattle.saiga.specs.Sheet.{Sheet, ruleScope, Definition, undefined, figure, piece-of, definition}
+use Rattle.saiga.specs.Sheet.{Sheet, ruleScope, Definition, undefined, figure, piece-of, forward-of, definition}
 use Rattle.saiga.specs.Terms.{Occurrence}
 use Rattle.saiga.specs.Caching.{Entry, isKept, Counted, circular, tooDeep}
 use Rattle.saiga.proofs.Inference.{cond-passes}
 use Rattle.saiga.proofs.Reading.{read-width}
-use Rattle.engine.specs.Machine.{Next, by-move, by-step, Frame, on-if, on-left, on-skip, on-right, on-node, on-parameter, on-form, Mode, evaluating, returning, Machine, openForms, scopeIn, widthOf, passOver, Move, finishes, moves, takes, stops, readHead, within, branch, applicationDue, defined, applied, attributeDue, give, readNext, moveOf, move}
-use Rattle.engine.specs.Good.{Parses, Pieces, Ready, GoodAt, Good, used, usedBy, Waiting, Small}
+use Rattle.engine.specs.Machine.{Next, by-move, by-step, Frame, on-if, on-left, on-skip, on-right, on-node, on-parameter, on-forward, on-form, Mode, evaluating, returning, Machine, openForms, scopeIn, widthOf, passOver, Move, finishes, moves, takes, stops, readHead, within, branch, applicationDue, defined, applied, attributeDue, give, readNext, moveOf, move}
+use Rattle.engine.specs.Good.{Parses, Pieces, OnForm, Ready, GoodAt, Good, used, usedBy, Waiting, Small}
 use Rattle.engine.specs.Decode.{frameLimit, sheetOf, machineOf}
 use Rattle.engine.specs.Steps.{Memory}
 use Rattle.engine.specs.Represents.{machineIn, Represents}
 use Rattle.engine.specs.declared.Registers.{Registers}
+use Rattle.engine.proofs.Heads.{head-inside}
 use Rattle.engine.specs.Cost.{Moves, at-first, and-then, credit, credits, modeCredit, measure}
 
 -- ---- What every move keeps
@@ -81,9 +82,20 @@ whole-short sc l e h = leb-true (length l) 256 (cond-passes (leb (length l) 256)
     no : no-expression ≡ expression e → ⊥
     no h = let z : _≡_ {A = ℕ} 0 1 = cc in omega arith
 
+-- An expression has a byte at least.
+pass-less : {sc : Scope} {l : List ℕ} → Parses sc l → length (passOver sc l) < length l
+unfolding passOver widthOf
+pass-less {sc} {l} p =
+    let is : length (passOver sc l) ≡ length (drop (p .width) l) = rw (p .read) in
+    omega (arith, length-drop (p .width) l, read-width sc (length l) l (p .expr) (p .width) (p .read))
+
 nothing-parses : (sc : Scope) → Parses sc [] → ⊥
 unfolding readExpr
 nothing-parses sc p = let r = p .read in let z : _≡_ {A = ℕ} 0 1 = cc in omega arith
+
+-- nothing of a form's piece is used where its frame is the innermost
+used-none : {fs : List Frame} → OnForm fs → used fs ≡ 0
+used-none (o, outer, under, is) = rw is
 
 -- ---- One move
 
@@ -97,17 +109,22 @@ module _ (s : Sheet) (capacity budget : ℕ) (entries : List Entry) (steps : ℕ
   unfolding modeCredit
   value-on c l k fs v h = within-piece (omega arith) (λ w. w)
 
-  reads-on : (c : ℕ) (l : List ℕ) (fs : List Frame) (h : Head)
+  reads-on : (c : ℕ) (l : List ℕ) (fs : List Frame) (h : Head) → headOf c ≡ h
       → Keeps s budget (state evaluating (c ∷ l) fs) (readHead s capacity budget (state evaluating (c ∷ l) fs) h l)
   unfolding readHead credits credit modeCredit openForms
-  reads-on c l fs (base-literal t) = value-on c l _ fs _ (drop-shorter (operandWidth t) l)
-  reads-on c l fs function-literal = value-on c l _ fs _ (drop-shorter 1 l)
-  reads-on c l fs if-head = within-piece (omega arith) (λ w. w)
-  reads-on c l fs application-head = within-piece (omega arith) (λ w. w)
-  reads-on c l fs attribute-head = within-piece (omega (arith, drop-shorter 1 l)) (λ w. w)
-  reads-on c l fs this-head = value-on c l l fs _ (omega arith)
-  reads-on c l fs parameter-head = value-on c l l fs _ (omega arith)
-  reads-on c l fs no-head = value-on c l l fs _ (omega arith)
+  reads-on c l fs (base-literal t) e = value-on c l _ fs _ (drop-shorter (operandWidth t) l)
+  reads-on c l fs function-literal e = value-on c l _ fs _ (drop-shorter 1 l)
+  reads-on c l fs if-head e = within-piece (omega arith) (λ w. w)
+  reads-on c l fs application-head e = within-piece (omega arith) (λ w. w)
+  reads-on c l fs attribute-head e =
+      record { cost = omega arith; small = λ p g w. (omega (arith, longer (g .0)), w .1); forms = λ n. n; fit = omega arith }
+    where
+      -- the number and the node stand behind the head
+      longer : {sc : Scope} → Parses sc (c ∷ l) → length (drop 1 l) < length l
+      longer {sc} parses = let i = rw e at (head-inside parses) in omega (arith, pass-less (i .0), length-drop 1 l)
+  reads-on c l fs this-head e = value-on c l l fs _ (omega arith)
+  reads-on c l fs parameter-head e = value-on c l l fs _ (omega arith)
+  reads-on c l fs no-head e = value-on c l l fs _ (omega arith)
 
   within-on : (v : Value) (l : List ℕ) (fs : List Frame) (r : Counted) (m : Machine)
       → (steps < budget → Keeps s budget (state (returning v) l fs) m)
@@ -148,6 +165,16 @@ module _ (s : Sheet) (capacity budget : ℕ) (entries : List Entry) (steps : ℕ
       where
         short : Pieces s → length p ≤ 256
         short ps = let r = ps .whole (o .node) (o .attribute) p e in whole-short (ruleScope s) p (r .0) (r .1)
+    defined-on few o (forward-of p) e =
+        record {
+          cost = omega arith;
+          small = λ ps g w. (omega (arith, short ps), (omega arith, w .1));
+          forms = λ n. few;
+          fit = omega arith;
+        }
+      where
+        short : Pieces s → length p ≤ 256
+        short ps = let r = ps .forward (o .node) (o .attribute) p e in whole-short (ruleScope s) p (r .0) (r .2)
 
     -- a kept value opens no form
     applied-on : (o : Occurrence) (k : Option Value) → (Bool.not (isKept k) && leb 64 (length (openForms fs))) ≡ false
@@ -171,6 +198,8 @@ module _ (s : Sheet) (capacity budget : ℕ) (entries : List Entry) (steps : ℕ
       cond-onward _ (ltb steps budget) _ _ (λ b.
       cond-onward _ (tooDeep entries (openForms fs) _) _ _ (λ h. tt) λ shallow.
       applied-on v n a l fs (ltb-true steps budget b) _ _ shallow) (λ h. tt)
+  give-on v l (on-forward a ∷ fs) =
+      record { cost = omega arith; small = λ p g w. (omega (arith, ap length (g .0), used-none (g .1)), w .1); forms = λ n. n; fit = omega arith }
   give-on v l (on-form o outer ∷ fs) =
       record { cost = omega arith; small = λ p g w. (omega arith, w .1 .1); forms = λ n. omega arith; fit = omega arith }
 
@@ -178,7 +207,7 @@ module _ (s : Sheet) (capacity budget : ℕ) (entries : List Entry) (steps : ℕ
   unfolding move moveOf readNext modeCredit
   move-on evaluating [] fs =
       record { cost = omega arith; small = λ p g. absurd (nothing-parses (scopeIn s (openForms fs)) (g .0)); forms = λ n. n; fit = omega arith }
-  move-on evaluating (c ∷ l) fs = reads-on c l fs (headOf c)
+  move-on evaluating (c ∷ l) fs = reads-on c l fs (headOf c) refl
   move-on (returning v) l fs = give-on v l fs
 
 next-on : {s : Sheet} {capacity budget : ℕ} {m m′ : Machine} → Next s capacity budget m m′ → Keeps s budget m m′
@@ -204,15 +233,20 @@ steps-on n h = let k = next-on n .cost in (k .counts, omega (arith, k .within))
 
 -- ---- Room for the frames
 
--- An expression has a byte at least.
-pass-less : {sc : Scope} {l : List ℕ} → Parses sc l → length (passOver sc l) < length l
-unfolding passOver widthOf
-pass-less {sc} {l} p =
-    let is : length (passOver sc l) ≡ length (drop (p .width) l) = rw (p .read) in
-    omega (arith, length-drop (p .width) l, read-width sc (length l) l (p .expr) (p .width) (p .read))
+-- a form's frame has room for one more on it
+abbrev spare : List Frame → ℕ
+spare [] = 0
+spare (on-if ∷ fs) = 0
+spare (on-left ∷ fs) = 0
+spare (on-skip ∷ fs) = 0
+spare (on-right v ∷ fs) = 0
+spare (on-node a ∷ fs) = 0
+spare (on-parameter v a ∷ fs) = 0
+spare (on-forward a ∷ fs) = 0
+spare (on-form o outer ∷ fs) = 2
 
--- Each frame has two bytes of its piece, used or still to come to.
-ready-fit : (s : Sheet) (fs : List Frame) (l : List ℕ) → Ready s fs l → Waiting fs → 2 * length fs ≤ used fs + length l + 256 * length (openForms fs)
+-- Each frame has two bytes of its piece, used or still to come to; a forward's has those that its form's frame spares.
+ready-fit : (s : Sheet) (fs : List Frame) (l : List ℕ) → Ready s fs l → Waiting fs → spare fs + 2 * length fs ≤ used fs + length l + 256 * length (openForms fs)
 unfolding openForms
 ready-fit s [] l r w = omega arith
 ready-fit s (on-if ∷ fs) l (first, second, r) w = omega (arith, pass-less first, pass-less second, ready-fit s fs _ r w)
@@ -221,6 +255,9 @@ ready-fit s (on-skip ∷ fs) l (first, r) w = omega (arith, pass-less first, rea
 ready-fit s (on-right v ∷ fs) l r w = omega (arith, ready-fit s fs l r w)
 ready-fit s (on-node a ∷ fs) l (first, r) w = omega (arith, pass-less first, ready-fit s fs _ r w)
 ready-fit s (on-parameter v a ∷ fs) l r w = omega (arith, ready-fit s fs l r w)
+ready-fit s (on-forward a ∷ fs) l (nothing, (o, outer, under, is), r) w =
+    let room : spare fs ≡ 2 = rw is in
+    omega (arith, ready-fit s fs l r w)
 ready-fit s (on-form o outer ∷ fs) l r w = omega (arith, ready-fit s fs outer r (w .1))
 
 -- A machine whose frames fit.

@@ -9,7 +9,7 @@ use Rattle.saiga.specs.Expressions.{Expr}
 use Rattle.saiga.specs.Sheet.{Sheet, accepted, checkSheet}
 use Rattle.saiga.specs.Caching.{Entry}
 use Rattle.saiga.specs.Ask.{checkQuestion}
-use Rattle.engine.specs.Machine.{Frame, on-if, on-left, on-skip, on-right, on-node, on-parameter, on-form, Mode, evaluating, returning, Machine, openForms}
+use Rattle.engine.specs.Machine.{Frame, on-if, on-left, on-skip, on-right, on-node, on-parameter, on-forward, on-form, Mode, evaluating, returning, Machine, openForms}
 use Rattle.engine.specs.Good.{Pieces}
 use Rattle.engine.specs.Cost.{Moves, at-first, and-then, credit, credits, modeCredit, measure}
 use Rattle.engine.proofs.Bounds.{Sized, small-on, forms-on, steps-on, frames-fit, moves-cost}
@@ -38,6 +38,7 @@ credit-few on-skip = omega arith
 credit-few (on-right v) = omega arith
 credit-few (on-node a) = omega arith
 credit-few (on-parameter v a) = omega arith
+credit-few (on-forward a) = omega arith
 credit-few (on-form o outer) = omega arith
 
 credits-few : (fs : List Frame) → credits fs ≤ 4 * length fs

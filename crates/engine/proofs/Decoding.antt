@@ -6,16 +6,15 @@ use Prim.Native.Nat.{ℕ, zero, suc, _+_, _-_, _≤_, _<_}
 use native.Mathlib.Nat.{add-zero, zero-sub, sub-zero, suc-sub-suc}
 use native.Mathlib.Numerals.{add-one, one-add}
 use native.Mathlib.Omega.{arith}
-use lib.Dec.{eqb, lit<}
+use lib.Dec.{eqb}
 use lib.ListN.{length, take, drop, getD, set, length-take, length-drop}
 use lib.Seq.{take-nil, drop-drop, getD-drop, getD-set-same, getD-set-other}
-use borrow.Author.Tests.{ne-eqb}
 use Rattle.saiga.specs.declared.Value.{Value}
 use Rattle.saiga.proofs.Preservation.{either}
 use Rattle.engine.specs.RunningPiece.{pieceIn, restOf}
 use Rattle.values.specs.Packed.{valueIn}
-use Rattle.engine.specs.Machine.{Frame, on-if, on-left, on-skip, on-right, on-node, on-parameter, on-form, openForms, innermost}
-use Rattle.engine.specs.FrameWords.{kindOf, ifKind, leftKind, skipKind, rightKind, nodeKind, parameterKind, formKind, rightWord, heldFunction, nodeWord, heldAttribute, parameterWord, heldNode}
+use Rattle.engine.specs.Machine.{Frame, on-if, on-left, on-skip, on-right, on-node, on-parameter, on-forward, on-form, openForms, innermost}
+use Rattle.engine.specs.FrameWords.{kindOf, ifKind, leftKind, skipKind, rightKind, nodeKind, parameterKind, formKind, rightWord, heldFunction, nodeWord, heldAttribute, parameterWord, heldNode, forwardKind, forwardWord}
 use Rattle.engine.specs.Decode.{plainFrame, formOccurrence, formRest, framesIn}
 use Rattle.engine.specs.Represents.{Packs}
 
@@ -48,16 +47,13 @@ module _ (w : ℕ) where
   unfolding plainFrame
   node-kind e = record { plain = rw e; is = rw e }
 
-  pub parameter-kind : parameterKind ≤ kindOf w → (kindOf w ≡ formKind → ⊥) → WordOf w (on-parameter (valueIn (heldNode w)) (heldAttribute w))
+  pub parameter-kind : kindOf w ≡ parameterKind → WordOf w (on-parameter (valueIn (heldNode w)) (heldAttribute w))
   unfolding plainFrame
-  parameter-kind late no-form =
-      record {
-        plain = ne-eqb _ _ no-form;
-        is = rw (above 0 (lit< tt), above 1 (lit< tt), above 2 (lit< tt), above 3 (lit< tt), above 4 (lit< tt));
-      }
-    where
-      above : (k : ℕ) → k < 5 → eqb (kindOf w) k ≡ false
-      above k h = ne-eqb (kindOf w) k (omega arith)
+  parameter-kind e = record { plain = rw e; is = rw e }
+
+  pub forward-kind : kindOf w ≡ forwardKind → WordOf w (on-forward (heldAttribute w))
+  unfolding plainFrame
+  forward-kind e = record { plain = rw e; is = rw e }
 
 -- the words that are written
 pub right-word : {v : Value} {p : ℕ} → Packs v p → WordOf (rightWord p) (on-right v)
@@ -73,13 +69,19 @@ node-word {a} h = rw holds at (node-kind (nodeWord a) (omega arith))
     holds = omega arith
 
 pub parameter-word : {v : Value} {a p : ℕ} → a < 32 → Packs v p → WordOf (parameterWord a p) (on-parameter v a)
-parameter-word {v} {a} {p} small h = rw (value, number, h .0) at (parameter-kind (parameterWord a p) (omega arith) (omega arith))
+parameter-word {v} {a} {p} small h = rw (value, number, h .0) at (parameter-kind (parameterWord a p) (omega arith))
   where
     value : heldNode (parameterWord a p) ≡ p
     value = omega arith
 
     number : heldAttribute (parameterWord a p) ≡ a
     number = omega arith
+
+pub forward-word : {a : ℕ} → a < 32 → WordOf (forwardWord a) (on-forward a)
+forward-word {a} h = rw holds at (forward-kind (forwardWord a) (omega arith))
+  where
+    holds : heldAttribute (forwardWord a) ≡ a
+    holds = omega arith
 
 -- such a frame opens no form
 record OpensNone (f : Frame) : Type 0 where
@@ -92,7 +94,8 @@ plain-open w =
     (or-else 1 (none (λ fs. refl))
     (or-else 2 (none (λ fs. refl))
     (or-else 3 (none (λ fs. refl))
-    (or-else 4 (none (λ fs. refl)) (none (λ fs. refl))))))
+    (or-else 4 (none (λ fs. refl))
+    (or-else 5 (none (λ fs. refl)) (none (λ fs. refl)))))))
   where
     none : {f : Frame} → ((fs : List Frame) → openForms (f ∷ fs) ≡ openForms fs) → OpensNone f
     none h = record { open-forms = h }

@@ -4,7 +4,7 @@ use mathlib.Core.List.{List, [], _∷_}
 use mathlib.Core.Path.{_≡_, refl, _∙_}
 use Prim.Native.Nat.{ℕ, suc, _+_, _≤_}
 use native.Mathlib.Omega.{arith}
-use lib.ListN.{length, take, drop, getD, length-drop}
+use lib.ListN.{length, take, drop, getD, length-drop, drop-of-length-le}
 use lib.Seq.{drop-drop}
 use Rattle.saiga.specs.Values.{functionOf, ofBytes, ofWord}
 use Rattle.saiga.specs.declared.Value.the-variants.{Function as function}
@@ -121,3 +121,7 @@ none-inside p = never (p .read)
 -- a whole expression, as a rule or a question is one
 pub whole-parses : {sc : Scope} {l : List ℕ} {e : Expr} → readWhole sc l ≡ expression e → Parses sc l × (nextExpr sc l ≡ e)
 whole-parses {sc} {l} {e} h = let a = stands (length l) {l = l} (omega arith) (whole-reads sc l e h) in (a .parses, a .is)
+
+-- behind which nothing is left
+pub whole-over : (sc : Scope) (l : List ℕ) {e : Expr} → readWhole sc l ≡ expression e → passOver sc l ≡ []
+whole-over sc l {e} h = stands {sc = sc} (length l) {l = l} (omega arith) (whole-reads sc l e h) .rest ∙ drop-of-length-le l {i = length l} (omega arith)

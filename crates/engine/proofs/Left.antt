@@ -20,11 +20,12 @@ use Rattle.saiga.proofs.Preservation.{either}
 use Rattle.saiga.proofs.FourBytes.{word-trip, word-in, in-code}
 use Rattle.saiga.proofs.Entries.{passes, first-bytes, store-in}
 use Rattle.saiga.specs.declared.Fields.{Fields}
+use Rattle.sheets.specs.Scan.{ruleNumber}
 use Rattle.stores.specs.Keys.{findKey, keyIn, entriesIn, putAt}
 use Rattle.stores.proofs.ByKey.{entries-are, entries-last}
 use Rattle.stores.proofs.Written.{put-length, put-before, put-there, left-more}
-use Rattle.engine.specs.FrameWords.{kindOf, ifKind, leftKind, skipKind, rightKind, nodeKind, formKind}
-use Rattle.engine.specs.Steps.{Memory, Stepped, goes, waits, finishes, stops, readHead, appended, unlessFound, cacheWrite, closeForm, takeIf, openRule, openFigure, takeKept, attributeDue, give, readNext, stepOf}
+use Rattle.engine.specs.FrameWords.{kindOf, ifKind, leftKind, skipKind, rightKind, nodeKind, parameterKind, formKind}
+use Rattle.engine.specs.Steps.{Memory, Stepped, goes, waits, finishes, stops, readHead, appended, unlessFound, cacheWrite, closeForm, takeIf, openPiece, openRule, openFigure, takeKept, attributeDue, give, readNext, stepOf}
 use Rattle.engine.specs.declared.Registers.{Registers}
 use Rattle.engine.proofs.Limited.{within-holds, right-holds, missing-holds}
 
@@ -81,9 +82,13 @@ module _ (sheet index : List ℕ) (mem : Memory) (m : Registers) where
   if-moves skip true = unchanged
   if-moves skip false = unchanged
 
+  rule-moves : (n a word : ℕ) → P (openRule sheet index mem m n a word)
+  unfolding openRule openPiece
+  rule-moves n a word = either P (eqb (ruleNumber sheet index n a) 0) (λ _. unchanged) (λ _. unchanged)
+
   figure-moves : (n a word : ℕ) (f : Option Value) → P (openFigure sheet index mem m n a word f)
-  unfolding openFigure openRule
-  figure-moves n a word none = unchanged
+  unfolding openFigure
+  figure-moves n a word none = rule-moves n a word
   figure-moves n a word (some v) = write-changes (mem .store) (m .kept) _
 
   kept-moves : (budget limit n a : ℕ) (f : Option ℕ) → P (takeKept sheet index budget limit mem m n a f)
@@ -105,7 +110,7 @@ module _ (sheet index : List ℕ) (mem : Memory) (m : Registers) where
       either P (eqb (kindOf w) rightKind) (λ _. right-holds P budget limit mem m _ tt tt tt (λ _ _. unchanged)) λ _.
       either P (eqb (kindOf w) nodeKind) (λ _. unchanged) λ _.
       either P (eqb (kindOf w) formKind) (λ _. write-changes (mem .store) (m .kept) _) λ _.
-      attribute-moves budget limit _ _
+      either P (eqb (kindOf w) parameterKind) (λ _. attribute-moves budget limit _ _) (λ _. unchanged)
 
   store-moves-to : (question : List ℕ) (budget limit skip packed : ℕ) → P (stepOf sheet index question budget limit skip packed mem m)
   unfolding stepOf

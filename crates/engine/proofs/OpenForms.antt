@@ -19,8 +19,8 @@ use Rattle.saiga.proofs.Equality.{same-occurrence, occurrence-refl, occurrence-
 use Rattle.saiga.proofs.Preservation.{either}
 use Rattle.stores.specs.Keys.{sameKey}
 use Rattle.stores.proofs.Searches.{same-key, key-refl}
-use Rattle.engine.specs.Machine.{Frame, on-if, on-left, on-skip, on-right, on-node, on-parameter, on-form, openForms, plug}
-use Rattle.engine.specs.FrameWords.{kindOf, ifKind, leftKind, skipKind, rightKind, nodeKind, formKind}
+use Rattle.engine.specs.Machine.{Frame, on-if, on-left, on-skip, on-right, on-node, on-parameter, on-forward, on-form, openForms, plug}
+use Rattle.engine.specs.FrameWords.{kindOf, ifKind, leftKind, skipKind, rightKind, nodeKind, parameterKind, formKind}
 use Rattle.engine.specs.Decode.{plainFrame, formOccurrence, framesIn}
 use Rattle.engine.specs.OpenKeys.{formKey, keyOpen}
 use Rattle.engine.proofs.StoreWritten.{keyOf}
@@ -56,6 +56,7 @@ module _ {nodes : ℕ} {sig : List Attribute} where
   plug-in s (on-right v ∷ fs) t l h = app-in (plug-in s fs _ _ h .1) .1
   plug-in s (on-node a ∷ fs) t l h = (_, attr-in (plug-in s fs _ _ h .1) .1)
   plug-in s (on-parameter v a ∷ fs) t l h = (_, attr-in (plug-in s fs _ _ h .1) .2)
+  plug-in s (on-forward a ∷ fs) t l h = (_, attr-in (plug-in s fs _ _ h .1) .1)
   plug-in s (on-form o outer ∷ fs) t l h = (_, form-in (plug-in s fs _ _ h .1) .1)
 
 -- ---- Frames and forms
@@ -68,7 +69,8 @@ plain-open w fs =
     (λ _. either P (eqb (kindOf w) leftKind) (λ _. refl)
     (λ _. either P (eqb (kindOf w) skipKind) (λ _. refl)
     (λ _. either P (eqb (kindOf w) rightKind) (λ _. refl)
-    (λ _. either P (eqb (kindOf w) nodeKind) (λ _. refl) (λ _. refl)))))
+    (λ _. either P (eqb (kindOf w) nodeKind) (λ _. refl)
+    (λ _. either P (eqb (kindOf w) parameterKind) (λ _. refl) (λ _. refl))))))
   where
     P : Frame → Type 0
     P f = openForms (f ∷ fs) ≡ openForms fs
@@ -86,6 +88,7 @@ forms-in s (on-skip ∷ fs) t l h = forms-in s fs t _ h
 forms-in s (on-right v ∷ fs) t l h = forms-in s fs _ _ h
 forms-in s (on-node a ∷ fs) t l h = forms-in s fs _ _ h
 forms-in s (on-parameter v a ∷ fs) t l h = forms-in s fs _ _ h
+forms-in s (on-forward a ∷ fs) t l h = forms-in s fs _ _ h
 forms-in s (on-form o outer ∷ fs) t l h = all-cons (form-in (plug-in s fs (form o t) outer h .1) .0) (forms-in s fs (form o t) outer h)
 
 -- the occurrences of the first k forms in memory, the innermost first

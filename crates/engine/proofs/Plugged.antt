@@ -8,7 +8,7 @@ use Rattle.saiga.specs.Expressions.{Expr}
 use Rattle.saiga.specs.Sheet.{Sheet}
 use Rattle.saiga.specs.Terms.{val, cond, app, attr, form}
 use Rattle.saiga.specs.Caching.{Entry, Running, Due, finished, counts, writes, halts, duePart, due}
-use Rattle.engine.specs.Machine.{Frame, on-if, on-left, on-skip, on-right, on-node, on-parameter, on-form, openForms, plug}
+use Rattle.engine.specs.Machine.{Frame, on-if, on-left, on-skip, on-right, on-node, on-parameter, on-forward, on-form, openForms, plug}
 
 -- all but a value, which the frames around a part take up
 abbrev pub Unfinished : Due → Type 0
@@ -49,4 +49,5 @@ module _ (s : Sheet) (context : ℕ → ℕ → Expr) (entries : List Entry) (ha
   in-whole (on-right v ∷ fs) l t = around (λ x. app (val v) x) _ _ (in-whole fs l (app (val v) t))
   in-whole (on-node a ∷ fs) l t = around (λ n. attr n a _) _ _ (in-whole fs _ _)
   in-whole (on-parameter v a ∷ fs) l t = around (λ x. attr (val v) a x) _ _ (in-whole fs l (attr (val v) a t))
+  in-whole (on-forward a ∷ fs) l t = around (λ n. attr n a _) _ _ (in-whole fs l _)
   in-whole (on-form o outer ∷ fs) l t = around (λ x. form o x) _ _ (in-whole fs outer (form o t))

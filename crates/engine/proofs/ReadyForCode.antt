@@ -15,17 +15,17 @@ use Rattle.saiga.proofs.FourBytes.{word-more, word-small}
 use Rattle.sheets.proofs.Indexed.{attribute-by-index}
 use Rattle.engine.specs.RunningPiece.{restOf}
 use Rattle.expressions.specs.Widths.{Starts, headWidth}
-use Rattle.engine.specs.Machine.{Frame, on-if, on-left, on-skip, on-right, on-node, on-parameter, on-form, evaluating, returning, openForms, innermost, scopeIn, plug, termOf, stateOf}
+use Rattle.engine.specs.Machine.{Frame, on-if, on-left, on-skip, on-right, on-node, on-parameter, on-forward, on-form, evaluating, returning, openForms, innermost, scopeIn, plug, termOf, stateOf}
 use Rattle.engine.specs.Good.{Parses, Ready, GoodAt}
 use Rattle.engine.proofs.Bounds.{represents-sized, frames-fit}
 use Rattle.engine.proofs.Heads.{none-inside}
-use Rattle.engine.specs.FrameWords.{kindOf, ifKind, skipKind}
+use Rattle.engine.specs.FrameWords.{kindOf, ifKind, skipKind, forwardKind}
 use Rattle.engine.specs.Decode.{frameLimit, formsSize, runSize, wordsIn, formsIn, sheetOf, formOccurrence, framesIn, modeOf, machineOf}
 use Rattle.engine.specs.Steps.{Memory}
 use Rattle.engine.specs.Represents.{Represents}
 use Rattle.engine.specs.Ready.{memoryOf, innermostPlace, NodeReady, ParameterReady, HeadReady, ReadReady, FrameReady}
 use Rattle.engine.specs.declared.Registers.{Registers}
-use Rattle.engine.proofs.Decoding.{WordOf, if-kind, skip-kind, top-frame, frames-count, innermost-form, rest-length}
+use Rattle.engine.proofs.Decoding.{WordOf, if-kind, skip-kind, forward-kind, top-frame, frames-count, innermost-form, rest-length}
 use Rattle.engine.proofs.RunMemory.{form-at}
 use Rattle.engine.proofs.Steps.{Fits, head-fits, inside-form}
 use Rattle.engine.proofs.OpenForms.{plug-in, form-in}
@@ -41,6 +41,7 @@ innermost-in s (on-skip ∷ fs) t l some h = innermost-in s fs _ _ some h
 innermost-in s (on-right v ∷ fs) t l some h = innermost-in s fs _ _ some h
 innermost-in s (on-node a ∷ fs) t l some h = innermost-in s fs _ _ some h
 innermost-in s (on-parameter v a ∷ fs) t l some h = innermost-in s fs _ _ some h
+innermost-in s (on-forward a ∷ fs) t l some h = innermost-in s fs _ _ some h
 innermost-in s (on-form o outer ∷ fs) t l some h = form-in (plug-in s fs _ _ h .1) .0
 
 -- a head with its operand
@@ -164,7 +165,7 @@ module _ {sheet index question : List ℕ} {store : List ℕ} (run : List ℕ) {
 starts : {sc : Scope} {l : List ℕ} → Parses sc l → Starts l
 starts {sc} p = record { scope = sc; expr = p .expr; width = p .width; read = p .read }
 
--- An expression stands before a machine that gives a value to an IF, or has taken its first branch.
+-- An expression stands before a machine that gives a value to an IF, or has taken its first branch; a form is open in one that gives a forward its node.
 module _ {sheet index question : List ℕ} {mem : Memory} {m : Registers} (r : Represents sheet index question mem m)
     (gives : m .returning ≡ true) (some : 0 < m .frames) where
   abbrev rest : List ℕ
@@ -185,3 +186,9 @@ module _ {sheet index question : List ℕ} {mem : Memory} {m : Registers} (r : R
 
   pub skip-starts : kindOf word ≡ skipKind → Starts rest
   skip-starts kind = starts (follows (skip-kind word kind) .0)
+
+  pub forward-open : kindOf word ≡ forwardKind → 0 < length (openForms (framesIn sheet question (mem .words) (mem .forms) (m .frames) (m .forms)))
+  unfolding openForms
+  forward-open kind =
+      let (o, outer, under, on) = follows (forward-kind word kind) .1 in
+      rw (top-frame sheet question (mem .forms) (mem .words) (m .frames) (m .forms) some (forward-kind word kind), on) (omega arith)

@@ -12,17 +12,17 @@ use Rattle.saiga.specs.declared.Applied.the-variants.{Gives as gives, Overflow 
 use Rattle.saiga.specs.declared.Value.{Value}
 use Rattle.saiga.specs.declared.Value.the-variants.{Unit as unit}
 use Rattle.saiga.specs.Expressions.{Expr, Head, base-literal, function-literal, if-head, application-head, attribute-head, this-head, parameter-head, no-head, headOf}
-use Rattle.saiga.specs.Sheet.{Sheet, Definition, undefined, figure, piece-of, definition, wholeExpr, definitionExpr, context}
+use Rattle.saiga.specs.Sheet.{Sheet, ruleScope, Definition, undefined, figure, piece-of, forward-of, definition, wholeExpr, definitionExpr, context}
 use Rattle.saiga.specs.Terms.{Occurrence, val, cond, app, attr, form, put}
 use Rattle.saiga.specs.Plain.{on-null, by-overflow}
 use Rattle.saiga.specs.Caching.{Entry, Running, kept, write, Counted, CondTrue, CondFalse, AppApp, AttrApp, as-plain, circle, spent, depth, Due, finished, counts, writes, halts, duePart, count, condRule, appApp, keptOr, circular, tooDeep, attrApp, due, State, with-value, by, Ended, dueAt}
 use Rattle.saiga.specs.Runs.{Runs, Traces}
 use Rattle.saiga.proofs.RunEnds.{after, traces-after}
 use Rattle.saiga.proofs.Keeping.{write-kept}
-use Rattle.engine.specs.Machine.{Frame, on-if, on-left, on-skip, on-right, on-node, on-parameter, on-form, Mode, evaluating, returning, Machine, openForms, innermost, scopeIn, plug, termOf, stateOf, Move, finishes, moves, takes, stops, readHead, within, branch, applicationDue, defined, applied, attributeDue, give, readNext, moveOf, move, Next, by-move, by-step}
+use Rattle.engine.specs.Machine.{Frame, on-if, on-left, on-skip, on-right, on-node, on-parameter, on-forward, on-form, Mode, evaluating, returning, Machine, openForms, innermost, scopeIn, plug, termOf, stateOf, Move, finishes, moves, takes, stops, readHead, within, branch, applicationDue, defined, applied, attributeDue, give, readNext, moveOf, move, Next, by-move, by-step}
 use Rattle.engine.specs.Good.{Pieces, Ready, Good}
 use Rattle.engine.proofs.Plugged.{Unfinished, carried, in-whole}
-use Rattle.engine.proofs.Heads.{Inside, head-inside, none-inside, whole-parses}
+use Rattle.engine.proofs.Heads.{Inside, head-inside, none-inside, whole-parses, whole-over}
 
 -- a machine that goes on is good
 abbrev GoodAfter : Sheet → Move → Type 0
@@ -126,7 +126,7 @@ module _ (s : Sheet) (capacity budget : ℕ) where
     Opened t next = Uncounted (around fs (m .rest) (form o t) (m .entries) (suc (m .steps))) (stateOf s next) × Good s next
 
     defined-opened : (d : Definition) → definition s (o .node) (o .attribute) ≡ d
-        → Opened (put (o .node) (o .parameter) (definitionExpr s d)) (defined s capacity budget m o fs d)
+        → Opened (put (o .node) (o .parameter) (definitionExpr s (o .attribute) d)) (defined s capacity budget m o fs d)
     unfolding stateOf termOf openForms plug defined put definitionExpr innermost scopeIn wholeExpr
     defined-opened undefined e = (form-written fs (m .rest) o unit (m .entries) (suc (m .steps)), ready)
     defined-opened (figure v) e = (form-written fs (m .rest) o v (m .entries) (suc (m .steps)), ready)
@@ -134,6 +134,10 @@ module _ (s : Sheet) (capacity budget : ℕ) where
         let (x, r) = pieces .whole (o .node) (o .attribute) p e in
         let (parses, is) = whole-parses r in
         (same (rw (is, r, wholeExpr)), (parses, ready))
+    defined-opened (forward-of p) e =
+        let (x, own, r) = pieces .forward (o .node) (o .attribute) p e in
+        let (parses, is) = whole-parses r in
+        (same (rw (is, own, wholeExpr)), (parses, (whole-over (ruleScope s) p r, (o, m .rest, fs, refl), ready)))
 
     applied-opened : (k : Option Value) → kept (m .entries) o ≡ k
         → Opened (keptOr k (put (o .node) (o .parameter) (context s (o .node) (o .attribute)))) (applied s capacity budget m o fs k)
@@ -200,6 +204,7 @@ module _ (s : Sheet) (capacity budget : ℕ) where
   give-does pieces v (on-parameter n a ∷ fs) l entries steps ready =
       attribute-does pieces (machine (returning v) l (on-parameter n a ∷ fs) entries steps)
       (record { node = nodeOf n; attribute = a; parameter = v }) fs ready (attr (val n) a (val v)) (λ b. refl)
+  give-does pieces v (on-forward a ∷ fs) l entries steps ready = (same refl, ready .2)
   give-does pieces v (on-form o outer ∷ fs) l entries steps ready = (form-written fs outer o v entries steps, ready)
 
   -- ---- The moves

@@ -9,10 +9,11 @@ use Rattle.saiga.specs.Limits.{expressionLimit}
 use Rattle.saiga.specs.Values.{Ty, base, _⇒_}
 use Rattle.saiga.specs.declared.Value.{Value}
 use Rattle.saiga.specs.Expressions.{Expr, Whole, no-expression, expression, readWhole}
-use Rattle.saiga.specs.Sheet.{Sheet, questionScope, piece-of, ruled, figured, definition, accepted, checkSheet}
+use Rattle.saiga.specs.Sheet.{Sheet, questionScope, piece-of, forward-of, forwarded, ruled, figured, definition, accepted, checkSheet}
 use Rattle.saiga.specs.Caching.{Entry}
 use Rattle.saiga.specs.Ask.{ofBaseType, checkType, checkQuestion, asked}
-use Rattle.saiga.proofs.Accepted.{rule-reads}
+use Rattle.saiga.proofs.Accepted.{rule-reads, forward-reads, forward-in-rule}
+use Rattle.saiga.proofs.Reading.{wider-reads}
 use Rattle.engine.specs.Machine.{evaluating, Machine, openForms, innermost, scopeIn, plug, termOf, stateOf}
 use Rattle.engine.specs.Good.{Pieces, Good, Small}
 use Rattle.engine.proofs.Heads.{whole-parses}
@@ -43,13 +44,27 @@ question-start s q e h entries =
     let (parses, is) = whole-parses (whole-accepted s (readWhole (questionScope s) q) e h) in
     ((parses, tt), rw is)
 
--- a piece that a definition hands on is a rule's
-of-rule : (f : Option Value) (r : Option (List ℕ)) (p : List ℕ) → figured f (ruled r) ≡ piece-of p → r ≡ some p
-unfolding figured ruled
-of-rule (some v) r p h = cc
-of-rule none none p h = cc
-of-rule none (some q) p h = cc
+-- a piece that a definition hands on is a rule's, or a forward's
+of-rule : (f : Option Value) (r w : Option (List ℕ)) (p : List ℕ) → figured f (ruled r (forwarded w)) ≡ piece-of p → r ≡ some p
+unfolding figured ruled forwarded
+of-rule (some v) r w p h = cc
+of-rule none none none p h = cc
+of-rule none none (some q) p h = cc
+of-rule none (some q) w p h = cc
+
+of-forward : (f : Option Value) (r w : Option (List ℕ)) (p : List ℕ) → figured f (ruled r (forwarded w)) ≡ forward-of p → w ≡ some p
+unfolding figured ruled forwarded
+of-forward (some v) r w p h = cc
+of-forward none none none p h = cc
+of-forward none none (some q) p h = cc
+of-forward none (some q) w p h = cc
 
 pub pieces : (bytes : List ℕ) (s : Sheet) → checkSheet bytes ≡ accepted s → Pieces s
 unfolding definition
-pieces bytes s ok = record { whole = λ n a p e. rule-reads bytes s ok _ a p (of-rule _ _ p e) }
+pieces bytes s ok =
+    record {
+      whole = λ n a p e. rule-reads bytes s ok _ a p (of-rule _ _ _ p e);
+      forward = λ n a p e.
+          let (x, own) = forward-reads bytes s ok _ p (of-forward _ _ _ p e) in
+          (x, own, wider-reads _ _ (forward-in-rule s) p x own);
+    }

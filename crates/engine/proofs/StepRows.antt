@@ -20,7 +20,7 @@ use Rattle.saiga.specs.Caching.{circular, tooDeep}
 use Rattle.saiga.proofs.Preservation.{either}
 use Rattle.saiga.proofs.Tally.{rowOf}
 use Rattle.engine.specs.FrameWords.{kindOf, formKind}
-use Rattle.engine.specs.Machine.{Frame, on-if, on-left, on-skip, on-right, on-node, on-parameter, on-form, Machine, openForms, Move, finishes, moves, takes, stops, within, branch, applicationDue, attributeDue, give, moveOf, move}
+use Rattle.engine.specs.Machine.{Frame, on-if, on-left, on-skip, on-right, on-node, on-parameter, on-forward, on-form, Machine, openForms, Move, finishes, moves, takes, stops, within, branch, applicationDue, attributeDue, give, moveOf, move}
 use Rattle.engine.specs.Decode.{sheetOf, framesIn, modeOf, machineOf}
 use Rattle.engine.specs.Steps.{Memory}
 use Rattle.engine.specs.Represents.{machineIn}
@@ -62,6 +62,7 @@ module _ (s : Sheet) (capacity budget : ℕ) (m : Machine) where
   frame-row v (on-right f) fs = application-row f fs (apply f v)
   frame-row v (on-node a) fs = refl
   frame-row v (on-parameter n a) fs = attribute-row _ n fs
+  frame-row v (on-forward a) fs = refl
   frame-row v (on-form o outer) fs = refl
 
   -- the innermost of some words

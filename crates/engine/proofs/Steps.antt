@@ -3,7 +3,7 @@ use mathlib.Core.Bool.{Bool, true, false, false≢true}
 use mathlib.Core.List.{List, [], _∷_}
 use mathlib.Core.Path.{_≡_, refl, sym, ap, _∙_}
 use Prim.Native.Nat.{ℕ, _+_, _*_, _-_, _/_, _≤_, _<_}
-use native.Mathlib.Nat.{mod-lt}
+use native.Mathlib.Nat.{mod-lt, add-zero}
 use native.Mathlib.Numerals.{add-one}
 use native.Mathlib.Omega.{arith}
 use lib.Dec.{eqb, lit<}
@@ -26,8 +26,8 @@ use Rattle.saiga.proofs.Reading.{read-width}
 use Rattle.expressions.specs.Noted.{WidthOf}
 use Rattle.engine.specs.RunningPiece.{restOf}
 use Rattle.values.specs.Packed.{valueIn}
-use Rattle.engine.specs.Machine.{Frame, on-if, on-left, on-skip, on-right, on-node, Mode, evaluating, returning, Machine, openForms, innermost, scopeIn, widthOf, passOver, Move, moves, takes, readHead, within, branch, applicationDue, give, readNext, moveOf, move}
-use Rattle.engine.specs.FrameWords.{kindOf, ifKind, leftKind, skipKind, rightKind, nodeKind, parameterKind, formKind, heldAttribute, heldNode}
+use Rattle.engine.specs.Machine.{Frame, on-if, on-left, on-skip, on-right, on-node, on-forward, Mode, evaluating, returning, Machine, openForms, innermost, scopeIn, widthOf, passOver, Move, moves, takes, readHead, within, branch, applicationDue, give, readNext, moveOf, move}
+use Rattle.engine.specs.FrameWords.{kindOf, ifKind, leftKind, skipKind, rightKind, nodeKind, parameterKind, formKind, forwardKind, heldAttribute, heldNode}
 use Rattle.engine.specs.Decode.{sheetOf, entriesOf, formOccurrence, framesIn, modeOf, machineOf}
 use Rattle.engine.specs.Steps.{Memory, Stepped, goes, returned, pushed, writeWord, turned, takeIf, takeRight, closeForm, attributeDue, stepOf}
 use Rattle.engine.specs.Steps as Steps
@@ -37,8 +37,16 @@ use Rattle.engine.proofs.Bounds.{represents-sized, frames-fit}
 use Rattle.engine.specs.Machine.{Next, by-move, by-step}
 use Rattle.engine.proofs.Heads.{none-inside}
 use Rattle.engine.specs.Represents.{machineIn, HoldsIn, Represents, Matches, Packs, PacksIn}
-use Rattle.engine.proofs.Decoding.{WordOf, if-kind, left-kind, skip-kind, right-kind, node-kind, right-word, node-word, parameter-word, pushed-frame, top-frame, turned-frame, frames-count, innermost-form, rest-on, rest-length, rest-inside, rest-behind}
+use Rattle.engine.proofs.Decoding.{WordOf, if-kind, left-kind, skip-kind, right-kind, node-kind, forward-kind, right-word, node-word, parameter-word, pushed-frame, top-frame, turned-frame, frames-count, innermost-form, rest-on, rest-length, rest-inside, rest-behind}
 use Rattle.engine.proofs.Limited.{within-holds}
+
+-- A kind is below 8, so the last is what none of the others is.
+pub late-kind : (w : ℕ) → (kindOf w ≡ ifKind → ⊥) → (kindOf w ≡ leftKind → ⊥) → (kindOf w ≡ skipKind → ⊥) → (kindOf w ≡ rightKind → ⊥) → (kindOf w ≡ nodeKind → ⊥)
+    → parameterKind ≤ kindOf w
+late-kind w no-if no-left no-skip no-right no-node = omega arith
+
+pub last-kind : (w : ℕ) → parameterKind ≤ kindOf w → (kindOf w ≡ formKind → ⊥) → (kindOf w ≡ parameterKind → ⊥) → kindOf w ≡ forwardKind
+last-kind w late no-form no-parameter = omega arith
 
 -- ---- What reading has tested behind a head
 
@@ -117,7 +125,7 @@ module _ (sheet question : List ℕ) (budget limit : ℕ) (mem : Memory) (m : Re
   -- What is proved apart: a value is given to an attribute's frame, and to a form's.
   abbrev pub AttributeMatches : List ℕ → Type 0
   AttributeMatches index =
-      m .returning ≡ true → 0 < m .frames → parameterKind ≤ kindOf word → (kindOf word ≡ formKind → ⊥)
+      m .returning ≡ true → 0 < m .frames → kindOf word ≡ parameterKind
       → Matched (attributeDue sheet index budget limit mem m (nodeOf (valueIn (heldNode word))) (heldAttribute word))
 
   abbrev pub CloseMatches : Type 0
@@ -295,18 +303,11 @@ module _ (sheet question : List ℕ) (budget limit : ℕ) (mem : Memory) (m : Re
               either Matched (eqb (kindOf word) rightKind) (λ t. right (top (right-kind word (eqb-true _ _ t)))) λ no-right.
               either Matched (eqb (kindOf word) nodeKind) (λ t. node-given (packs gives some .1 (eqb-true _ _ t)) (top (node-kind word (eqb-true _ _ t)))) λ no-node.
               either Matched (eqb (kindOf word) formKind) (λ t. close gives some (eqb-true _ _ t)) λ no-form.
-              attribute gives some (late no-if no-left no-skip no-right no-node) (eqb-false _ _ no-form)
+              either Matched (eqb (kindOf word) parameterKind) (λ t. attribute gives some (eqb-true _ _ t)) λ no-parameter.
+              let late = late-kind word (eqb-false _ _ no-if) (eqb-false _ _ no-left) (eqb-false _ _ no-skip) (eqb-false _ _ no-right) (eqb-false _ _ no-node) in
+              let last = last-kind word late (eqb-false _ _ no-form) (eqb-false _ _ no-parameter) in
+              forward-given (packs gives some .2 last) (top (forward-kind word last))
             where
-              late : eqb (kindOf word) ifKind ≡ false → eqb (kindOf word) leftKind ≡ false → eqb (kindOf word) skipKind ≡ false → eqb (kindOf word) rightKind ≡ false → eqb (kindOf word) nodeKind ≡ false
-                  → parameterKind ≤ kindOf word
-              late a b c d e =
-                  let no-if : kindOf word ≡ ifKind → ⊥ = eqb-false _ _ a in
-                  let no-left : kindOf word ≡ leftKind → ⊥ = eqb-false _ _ b in
-                  let no-skip : kindOf word ≡ skipKind → ⊥ = eqb-false _ _ c in
-                  let no-right : kindOf word ≡ rightKind → ⊥ = eqb-false _ _ d in
-                  let no-node : kindOf word ≡ nodeKind → ⊥ = eqb-false _ _ e in
-                  omega arith
-
               left : Packs (m .value) packed → frames ≡ on-left ∷ below → Matched (goes (turned m) (writeWord mem (m .frames - 1) (3 + 8 * packed)))
               left value e = turns (m .steps) (right-word value) (rw e) (by-move (is-given e))
 
@@ -326,6 +327,19 @@ module _ (sheet question : List ℕ) (budget limit : ℕ) (mem : Memory) (m : Re
               node-given : Packs (m .value) packed → frames ≡ on-node (heldAttribute word) ∷ below
                   → Matched (goes (turned m) (writeWord mem (m .frames - 1) (5 + 8 * (heldAttribute word + 32 * packed))))
               node-given value e = turns (m .steps) (parameter-word (mod-lt _ (lit< tt)) value) (rw e) (by-move (is-given e))
+
+              -- the parameter is that of the form on which the frame stands
+              forward-given : Packs (m .value) packed → frames ≡ on-forward (heldAttribute word) ∷ below
+                  → Matched (goes (returned m 0 (formOccurrence sheet (mem .forms) (m .forms - 1) .parameter)) (writeWord mem (m .frames - 1) (5 + 8 * (heldAttribute word + 32 * packed))))
+              forward-given value e =
+                  let (o, outer, under, on) = ready e .1 in
+                  let same : openForms below ≡ openForms frames = rw e in
+                  let open-form : 0 < length (openForms frames) = rw (← same, on) (omega arith) in
+                  let form : innermost (openForms below) ≡ formOccurrence sheet (mem .forms) (m .forms - 1) =
+                  ap innermost same ∙ innermost-form sheet question (mem .forms) (mem .words) (m .frames) (m .forms) open-form in
+                  stays (r .holds) true (m .at + 0) (m .frames) (m .steps) _ (set (mem .words) (m .frames - 1) _) {l = bytes} (simp length-set) (rw add-zero (r .holds .from)) (rw add-zero)
+                  (turned-frame sheet question (mem .forms) (mem .words) (m .frames) (m .forms) some fit (parameter-word (mod-lt _ (lit< tt)) value)) same
+                  (by-move (is-given e ∙ rw form))
 
 -- ---- A move
 

@@ -1,5 +1,5 @@
 -- Every move keeps the run on what is noted, and where an expression is to be passed over, its width is noted.
-use mathlib.Core.Bool.{Bool, true, false, false≢true}
+use mathlib.Core.Bool.{Bool, true, false}
 use mathlib.Core.List.{List, [], _∷_}
 use mathlib.Core.Logic.{_⊎_, inl, inr}
 use mathlib.Core.Option.{Option, none, some}
@@ -15,26 +15,24 @@ use borrow.Author.Tests.{eqb-true, eqb-false}
 use Rattle.saiga.specs.Values.{null, nodeOf, ofBytes, truth}
 use Rattle.saiga.specs.declared.Value.{Value}
 use Rattle.saiga.specs.Expressions.{Head, base-literal, function-literal, if-head, application-head, attribute-head, this-head, parameter-head, no-head, headOf}
-use Rattle.saiga.specs.Sheet.{figured, ruled, isDefined}
-use Rattle.saiga.proofs.Accepted.{pair-defined}
 use Rattle.saiga.proofs.Preservation.{either}
 use Rattle.saiga.proofs.Reading.{read-width}
 use Rattle.values.specs.Packed.{valueIn}
 use Rattle.expressions.specs.Widths.{Starts, headWidth}
 use Rattle.expressions.specs.Noted.{WidthOf, Noted}
 use Rattle.expressions.proofs.Noting.{noted-front, noted-over}
-use Rattle.sheets.specs.Scan.{figurePlace, figureAt, pieceAt, indexed, ruleNumber}
-use Rattle.sheets.specs.Notes.{RulesNoted}
-use Rattle.sheets.proofs.Indexed.{kind-by-index}
+use Rattle.sheets.specs.Scan.{piecesAt, figurePlace, attributesPlace, figureAt, pieceAt, indexed, ruleNumber, forwardNumber, IndexedPair, PieceHere}
+use Rattle.sheets.specs.Notes.{PiecesNoted}
+use Rattle.sheets.proofs.Lookups.{rule-inside, forward-inside, rule-here, forward-here}
 use Rattle.engine.specs.RunningPiece.{pieceIn, restOf}
 use Rattle.engine.specs.FrameWords.{kindOf, ifKind, leftKind, skipKind, rightKind, nodeKind, parameterKind, formKind, heldAttribute, heldNode}
 use Rattle.engine.specs.Decode.{sheetOf}
-use Rattle.engine.specs.Steps.{Memory, Stepped, goes, waits, finishes, stops, readHead, closeForm, takeIf, openRule, openFigure, takeKept, attributeDue, give, readNext, stepOf}
+use Rattle.engine.specs.Steps.{Memory, Stepped, goes, waits, finishes, stops, readHead, closeForm, takeIf, forwarding, openPiece, openRule, openFigure, takeKept, attributeDue, give, readNext, stepOf}
 use Rattle.engine.specs.declared.Registers.{Registers}
 use Rattle.engine.specs.Represents.{Represents}
 use Rattle.engine.specs.Ready.{PassReady}
 use Rattle.engine.specs.Tracks.{NotedIn, Tracks}
-use Rattle.engine.proofs.Attributes.{setFour, four-older, four-third, four-last, form-counted, due-in, definition-at}
+use Rattle.engine.proofs.Attributes.{setFour, four-older, four-third, four-last, form-counted, pair-indexed, some-piece}
 use Rattle.engine.proofs.Decoding.{rest-on}
 use Rattle.engine.proofs.Kept.{by-key}
 use Rattle.engine.proofs.ReadyForCode.{if-starts, skip-starts}
@@ -121,7 +119,7 @@ module _ {sheet index question notes : List ℕ} {mem : Memory} {m : Registers} 
 
   goes-on-at : (b : Bool) (at frames kept steps : ℕ) (v : Value) (store′ words : List ℕ) → NotedIn sheet notes (m .forms) at (m .end)
       → P (goes (at-place b at frames kept steps v) record { store = store′; words = words; forms = mem .forms })
-  goes-on-at b at frames kept steps v store′ words row = record { rules = t .rules; size = t .size; here = row; around = t .around }
+  goes-on-at b at frames kept steps v store′ words row = record { pieces = t .pieces; size = t .size; here = row; around = t .around }
 
   module _ (c : ℕ) (l : List ℕ) (is : bytes ≡ c ∷ l) where
     head-tracks : (h : Head) → headOf c ≡ h → P (readHead sheet mem m h l)
@@ -162,13 +160,13 @@ module _ {sheet index question notes : List ℕ} {mem : Memory} {m : Registers} 
     close-tracks is-form =
         let opened = form-counted r gives framed (by-key (sheetOf sheet)) is-form in
         record {
-          rules = t .rules;
+          pieces = t .pieces;
           size = t .size;
           here = t .around (m .forms - 1) (omega arith);
           around = λ k h. t .around k (omega arith);
         }
 
-    module _ (late : parameterKind ≤ kindOf word) (no-form : kindOf word ≡ formKind → ⊥) where
+    module _ (is-parameter : kindOf word ≡ parameterKind) where
       abbrev n : ℕ
       n = nodeOf (valueIn (heldNode word))
 
@@ -199,36 +197,46 @@ module _ {sheet index question notes : List ℕ} {mem : Memory} {m : Registers} 
                 (t .here)
             go (inr lt) = rw (older (4 * k + 2) (omega arith), older (4 * k + 3) (omega arith)) (t .around k lt)
 
-        rule-tracks : (w : ℕ) → getD index (figurePlace n a) 0 ≡ 0 → (i : ℕ) → ruleNumber sheet index n a ≡ i → P (openRule sheet index mem m n a w)
-        unfolding openRule indexed figured ruled isDefined pieceAt
-        rule-tracks w no-figure zero e =
-            let o-in = due-in r gives framed (by-key (sheetOf sheet)) late no-form no-null in
-            absurd (false≢true
-            (rw (definition-at r gives framed (by-key (sheetOf sheet)) late no-form no-null, no-figure, e)
-            at (pair-defined sheet (sheetOf sheet) (r .accepts) n a (o-in .node-declared) (o-in .attribute-declared))))
-        rule-tracks w no-figure (suc at) e =
-            let s = sheetOf sheet in
-            let known = r .index-of .described in
-            let o-in = due-in r gives framed (by-key s) late no-form no-null in
-            let kind = rw (kind-by-index sheet s index known n (o-in .node-declared), ← (r .index-of .attributes-in)) at (known .kinds-bound n (o-in .node-declared)) in
-            let size = ofBytes (take 2 (drop (at + 3) sheet)) in
-            let fits = known .rule-fits _ a at (known .kinds-bound n (o-in .node-declared)) (o-in .attribute-declared)
-            (rw (kind-by-index sheet s index known n (o-in .node-declared), ← (r .index-of .attributes-in)) e) in
-            let noted = t .rules .rule _ at (omega arith) (omega (arith, known .attributes-bound, o-in .attribute-declared)) e in
-            let length-at : suc at + 2 ≡ at + 3 = omega arith in
-            let piece-at : suc at + 4 ≡ at + 5 = omega arith in
-            let all : length (take size (drop (at + 5) sheet)) ≡ size = omega (arith, fits .0, length-take size (drop (at + 5) sheet), length-drop (at + 5) sheet) in
-            let width : at + 5 + size - (at + 5) ≡ size = omega arith in
+        -- the piece whose length stands at a number that the index has
+        piece-tracks : (w place number : ℕ) → piecesAt ≤ place → place < attributesPlace → getD index place 0 ≡ number → PieceHere sheet number
+            → P (openPiece sheet mem m n a w number)
+        unfolding openPiece pieceAt
+        piece-tracks w place zero low high e here = absurd (omega (arith, here .starts))
+        piece-tracks w place (suc at) low high e here =
+            let size = ofBytes (take 2 (drop (suc at) sheet)) in
+            let length-at : at + 1 ≡ suc at = omega arith in
+            let piece-at : at + 3 ≡ suc at + 2 = omega arith in
+            let noted = rw (length-at, piece-at) at (t .pieces .piece place at low high e) in
+            let all : length (take size (drop (suc at + 2) sheet)) ≡ size = omega (arith, here .room, length-take size (drop (suc at + 2) sheet), length-drop (suc at + 2) sheet) in
+            let width : suc at + 2 + size - (suc at + 2) ≡ size = omega arith in
             record {
-              rules = t .rules;
+              pieces = t .pieces;
               size = t .size;
-              here = rw (add-one (m .forms), e, length-at, piece-at, width) (rw all at noted);
+              here = rw (add-one (m .forms), width) (rw all at noted);
               around = rule-around w;
             }
 
+        -- the frame that is pushed changes neither the forms nor the place
+        forwarding-tracks : (x : Stepped) → P x → P (forwarding a x)
+        forwarding-tracks (goes m′ mem′) k = record { pieces = k .pieces; size = k .size; here = rw add-zero (k .here); around = k .around }
+        forwarding-tracks waits k = tt
+        forwarding-tracks finishes k = tt
+        forwarding-tracks (stops number) k = tt
+
+        rule-tracks : (w : ℕ) → getD index (figurePlace n a) 0 ≡ 0 → P (openRule sheet index mem m n a w)
+        unfolding openRule
+        rule-tracks w no-figure =
+            either P (eqb (ruleNumber sheet index n a) 0)
+            (λ none-here. forwarding-tracks (openPiece sheet mem m n a w (forwardNumber sheet index n)) (piece-tracks w _ _ (forward-inside sheet index n a pair .0) (forward-inside sheet index n a pair .1) refl
+            (forward-here sheet index n a pair (some-piece r gives framed (by-key (sheetOf sheet)) is-parameter no-null no-figure (eqb-true _ _ none-here)))))
+            (λ one-here. piece-tracks w _ _ (rule-inside sheet index n a pair .0) (rule-inside sheet index n a pair .1) refl (rule-here sheet index n a pair (eqb-false _ _ one-here)))
+          where
+            pair : IndexedPair sheet index n a
+            pair = pair-indexed r gives framed (by-key (sheetOf sheet)) is-parameter no-null
+
         figure-tracks : (w i : ℕ) → getD index (figurePlace n a) 0 ≡ i → P (openFigure sheet index mem m n a w (indexed i (figureAt sheet a)))
         unfolding openFigure indexed
-        figure-tracks w zero e = rule-tracks w e _ refl
+        figure-tracks w zero e = rule-tracks w e
         figure-tracks w (suc at) e = goes-on-at _ _ _ _ _ _ _ _ (t .here)
 
       kept-tracks : eqb n null ≡ false → (budget limit : ℕ) (f : Option ℕ) → P (takeKept sheet index budget limit mem m n a f)
@@ -253,13 +261,8 @@ module _ {sheet index question notes : List ℕ} {mem : Memory} {m : Registers} 
         either P (eqb (kindOf word) rightKind) (λ _. right-holds P budget limit mem m _ tt tt tt (λ _ _. goes-on-at _ _ _ _ _ _ _ _ (t .here))) λ no-right.
         either P (eqb (kindOf word) nodeKind) (λ _. goes-on-at _ _ _ _ _ _ _ _ (t .here)) λ no-node.
         either P (eqb (kindOf word) formKind) (λ e. close-tracks (eqb-true _ _ e)) λ no-form.
-        attribute-tracks
-        (later (eqb-false _ _ no-if) (eqb-false _ _ no-left) (eqb-false _ _ no-skip) (eqb-false _ _ no-right) (eqb-false _ _ no-node))
-        (eqb-false _ _ no-form) budget limit
-      where
-        later : (kindOf word ≡ ifKind → ⊥) → (kindOf word ≡ leftKind → ⊥) → (kindOf word ≡ skipKind → ⊥) → (kindOf word ≡ rightKind → ⊥) → (kindOf word ≡ nodeKind → ⊥)
-            → parameterKind ≤ kindOf word
-        later no-if no-left no-skip no-right no-node = omega arith
+        either P (eqb (kindOf word) parameterKind) (λ e. attribute-tracks (eqb-true _ _ e) budget limit)
+        (λ _. goes-on-at _ _ _ _ _ _ _ _ (rw add-zero (t .here)))
 
   step-tracks : (budget limit skip packed : ℕ) → WidthOf bytes skip → P (stepOf sheet index question budget limit skip packed mem m)
   unfolding stepOf
@@ -276,7 +279,7 @@ module _ {sheet index question notes : List ℕ} {mem : Memory} {m : Registers} 
 -- ---- The start
 
 -- The question is evaluated first, inside no form.
-pub tracks-start : (sheet index notes : List ℕ) (mem : Memory) (m : Registers) → m .forms ≡ 0 → RulesNoted sheet index notes → length sheet ≤ length notes
+pub tracks-start : (sheet index notes : List ℕ) (mem : Memory) (m : Registers) → m .forms ≡ 0 → PiecesNoted sheet index notes → length sheet ≤ length notes
     → Tracks sheet index notes mem m
-tracks-start sheet index notes mem m none-open rules size =
-    record { rules = rules; size = size; here = rw none-open tt; around = λ k h. absurd (omega arith) }
+tracks-start sheet index notes mem m none-open pieces size =
+    record { pieces = pieces; size = size; here = rw none-open tt; around = λ k h. absurd (omega arith) }

@@ -19,5 +19,5 @@ pub step-whole : (sheet index question : List ℕ) (budget limit skip packed : �
     (stepOf sheet index question budget limit skip packed mem m)
 step-whole sheet index question budget limit skip packed mem m r width packs =
     step-matches sheet index question budget limit skip packed mem m r width packs
-    (λ gives some late no-form. attribute-matches r gives some (by-key (sheetOf sheet)) late no-form _ budget limit refl)
+    (λ gives some is-parameter. attribute-matches r gives some (by-key (sheetOf sheet)) is-parameter _ budget limit refl)
     (λ gives some is-form. close-matches r gives some (by-key (sheetOf sheet)) is-form _ budget limit refl)

@@ -3,7 +3,7 @@ use mathlib.Core.List.{List, [], _∷_}
 use Prim.Native.Nat.{ℕ, suc, _+_, _*_, _-_}
 use lib.ListN.{length}
 use Rattle.saiga.specs.Sheet.{Sheet}
-use Rattle.engine.specs.Machine.{Frame, on-if, on-left, on-skip, on-right, on-node, on-parameter, on-form, Mode, evaluating, returning, Machine, Next}
+use Rattle.engine.specs.Machine.{Frame, on-if, on-left, on-skip, on-right, on-node, on-parameter, on-forward, on-form, Mode, evaluating, returning, Machine, Next}
 use Rattle.engine.specs.Decode.{frameLimit}
 
 -- So many moves lead from one machine to another.
@@ -14,7 +14,7 @@ pub data Moves (s : Sheet) (capacity budget : ℕ) (first : Machine) : ℕ → M
 -- A counted step pays for six moves, and room for a frame for three. A push uses that room: one of the three is the push itself, two stay with the
 -- frame, for the move that gives it its first value and for the head that is read next. Room that comes back must be paid for again. Where a counted step
 -- takes its frame away, the step pays. A form, and a branch that is passed over, are taken away by moves that are not counted: they have four from the step
--- that made them.
+-- that made them. A forward's frame has one from that step, for the move that gives it its node.
 unfoldable pub credit : Frame → ℕ
 credit on-if = 2
 credit on-left = 2
@@ -22,6 +22,7 @@ credit on-skip = 4
 credit (on-right v) = 0
 credit (on-node a) = 2
 credit (on-parameter v a) = 0
+credit (on-forward a) = 1
 credit (on-form o outer) = 4
 
 unfoldable pub credits : List Frame → ℕ

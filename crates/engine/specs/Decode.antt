@@ -16,8 +16,8 @@ use Rattle.engine.specs.RunningPiece.{pieceIn, restOf}
 use Rattle.stores.specs.Walks.{firstCell}
 use Rattle.values.specs.Layout.{parameterAt}
 use Rattle.values.specs.Packed.{valueIn}
-use Rattle.engine.specs.FrameWords.{pairNode, pairAttribute, kindOf, ifKind, leftKind, skipKind, rightKind, nodeKind, formKind, heldFunction, heldAttribute, heldNode}
-use Rattle.engine.specs.Machine.{Frame, on-if, on-left, on-skip, on-right, on-node, on-parameter, on-form, Mode, evaluating, returning, Machine, openForms}
+use Rattle.engine.specs.FrameWords.{pairNode, pairAttribute, kindOf, ifKind, leftKind, skipKind, rightKind, nodeKind, parameterKind, formKind, heldFunction, heldAttribute, heldNode}
+use Rattle.engine.specs.Machine.{Frame, on-if, on-left, on-skip, on-right, on-node, on-parameter, on-forward, on-form, Mode, evaluating, returning, Machine, openForms}
 use Rattle.engine.specs.declared.Registers.{Registers}
 
 -- the sheet that accepted bytes are
@@ -36,8 +36,8 @@ entriesOf (accepted entries) = entries
 -- ---- The memory of a run
 
 -- One lent array: the words of the frames, the open forms, four numbers to each, and the index of the open forms.
--- A frame has two bytes of its piece at least, used or still to come to: so there are at most 128 in each of 65 pieces, the question and the rules of 64
--- open forms (Bounds.antt).
+-- A frame has two bytes of its piece at least, used or still to come to: so there are at most 128 in each of 65 pieces, the question and the rules or forwards
+-- of 64 open forms (Bounds.antt).
 abbrev pub frameLimit : ℕ
 frameLimit = (depthLimit + 1) * (expressionLimit / 2)
 
@@ -79,7 +79,8 @@ plainFrame w =
     (cond (eqb (kindOf w) leftKind) on-left
     (cond (eqb (kindOf w) skipKind) on-skip
     (cond (eqb (kindOf w) rightKind) (on-right (valueIn (heldFunction w)))
-    (cond (eqb (kindOf w) nodeKind) (on-node (heldAttribute w)) (on-parameter (valueIn (heldNode w)) (heldAttribute w))))))
+    (cond (eqb (kindOf w) nodeKind) (on-node (heldAttribute w))
+    (cond (eqb (kindOf w) parameterKind) (on-parameter (valueIn (heldNode w)) (heldAttribute w)) (on-forward (heldAttribute w)))))))
 
 -- A form is four numbers (FrameWords.antt): its occurrence, and where the piece around it goes on and ends.
 unfoldable pub formOccurrence : List ℕ → List ℕ → ℕ → Occurrence

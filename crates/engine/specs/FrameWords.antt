@@ -9,7 +9,7 @@ abbrev pub kindOf : ℕ → ℕ
 kindOf w = w % 8
 
 -- IF that waits for its condition; an application for its function; IF whose second branch is taken, before its third is passed over; an
--- application for its argument; an attribute for its node, and for its parameter; a form for its value
+-- application for its argument; an attribute for its node, and for its parameter; a form for its value; a forward for its node
 abbrev pub ifKind : ℕ
 ifKind = 0
 
@@ -31,6 +31,9 @@ parameterKind = 5
 abbrev pub formKind : ℕ
 formKind = 6
 
+abbrev pub forwardKind : ℕ
+forwardKind = 7
+
 -- ---- What a word holds
 
 -- an application's function, as a packed value
@@ -40,9 +43,12 @@ rightWord packed = rightKind + 8 * packed
 abbrev pub heldFunction : ℕ → ℕ
 heldFunction w = w / 8 % packedLimit
 
--- an attribute's number
+-- an attribute's number, of an attribute that waits for its node and of a forward
 abbrev pub nodeWord : ℕ → ℕ
 nodeWord a = nodeKind + 8 * a
+
+abbrev pub forwardWord : ℕ → ℕ
+forwardWord a = forwardKind + 8 * a
 
 abbrev pub heldAttribute : ℕ → ℕ
 heldAttribute w = w / 8 % attributeLimit

@@ -14,19 +14,21 @@ use Rattle.saiga.specs.declared.Applied.the-variants.{Gives as gives, Overflow 
 use Rattle.saiga.specs.declared.Value.{Value}
 use Rattle.saiga.specs.declared.Value.the-variants.{Unit as unit, Node as node, Function as function}
 use Rattle.saiga.specs.Expressions.{Expr, literal, Scope, Head, base-literal, function-literal, if-head, application-head, attribute-head, this-head, parameter-head, no-head, headOf, operandWidth, Reading, malformed, reads, readExpr}
-use Rattle.saiga.specs.Sheet.{Sheet, ruleScope, questionScope, Definition, undefined, figure, piece-of, definition}
+use Rattle.saiga.specs.Sheet.{Sheet, ruleScope, questionScope, Definition, undefined, figure, piece-of, forward-of, definition}
 use Rattle.saiga.specs.Terms.{Occurrence, val, cond, app, attr, form, put}
 use Rattle.saiga.specs.Plain.{on-null, by-overflow}
 use Rattle.saiga.specs.Caching.{Entry, kept, write, Running, Counted, CondTrue, CondFalse, AppApp, AttrApp, Reason, as-plain, circle, spent, depth, circular, tooDeep, State}
 
 -- ---- States
 
--- What waits for the value of a part. The expressions that a frame has still to come to follow in the rest of the bytes.
+-- What waits for the value of a part. The expressions that a frame has still to come to follow in the rest of the bytes. A forward's frame stands on the form
+-- of an occurrence (n, a, v): it waits for the node of which attribute a is due with v (F-7 of document 02), and that v is not in the bytes.
 pub data Frame : Type 0 where
   on-if on-left on-skip : Frame
   on-right : Value → Frame
   on-node : ℕ → Frame
   on-parameter : Value → ℕ → Frame
+  on-forward : ℕ → Frame
   on-form : Occurrence → List ℕ → Frame
 
 pub data Mode : Type 0 where
@@ -50,13 +52,14 @@ openForms (on-skip ∷ l) = openForms l
 openForms (on-right v ∷ l) = openForms l
 openForms (on-node a ∷ l) = openForms l
 openForms (on-parameter v a ∷ l) = openForms l
+openForms (on-forward a ∷ l) = openForms l
 openForms (on-form o rest ∷ l) = o ∷ openForms l
 
 unfoldable pub innermost : List Occurrence → Occurrence
 innermost [] = record { node = 0; attribute = 0; parameter = unit }
 innermost (o ∷ l) = o
 
--- The question has neither 0x30 nor 0x31; what runs inside a form is a rule.
+-- The question has neither 0x30 nor 0x31; what runs inside a form is a rule, or a forward, which reads the same in a rule's scope.
 unfoldable pub scopeIn : Sheet → List Occurrence → Scope
 scopeIn s [] = questionScope s
 scopeIn s (o ∷ l) = ruleScope s
@@ -94,6 +97,7 @@ module _ (s : Sheet) where
   plug (on-right v ∷ fs) t l = plug fs (app (val v) t) l
   plug (on-node a ∷ fs) t l = plug fs (attr t a (termAt fs l)) (restAt fs l)
   plug (on-parameter v a ∷ fs) t l = plug fs (attr (val v) a t) l
+  plug (on-forward a ∷ fs) t l = plug fs (attr t a (val (innermost (openForms fs) .parameter))) l
   plug (on-form o outer ∷ fs) t l = plug fs (form o t) outer
 
   unfoldable pub termOf : Mode → List ℕ → List Frame → Running
@@ -151,6 +155,7 @@ module _ (s : Sheet) (capacity budget : ℕ) (m : Machine) where
   defined o fs undefined = counted (returning unit) (m .rest) fs (write capacity (m .entries) record { occurrence = o; value = unit })
   defined o fs (figure v) = counted (returning v) (m .rest) fs (write capacity (m .entries) record { occurrence = o; value = v })
   defined o fs (piece-of p) = counted evaluating p (on-form o (m .rest) ∷ fs) (m .entries)
+  defined o fs (forward-of p) = counted evaluating p (on-forward (o .attribute) ∷ on-form o (m .rest) ∷ fs) (m .entries)
 
   unfoldable pub applied : Occurrence → List Frame → Option Value → Machine
   applied o fs none = defined o fs (definition s (o .node) (o .attribute))
@@ -174,6 +179,7 @@ module _ (s : Sheet) (capacity budget : ℕ) (m : Machine) where
   give v (on-right f ∷ fs) = applicationDue fs (apply f v)
   give v (on-node a ∷ fs) = moves (goes evaluating (m .rest) (on-parameter v a ∷ fs))
   give v (on-parameter n a ∷ fs) = attributeDue record { node = nodeOf n; attribute = a; parameter = v } fs
+  give v (on-forward a ∷ fs) = moves (goes (returning (innermost (openForms fs) .parameter)) (m .rest) (on-parameter v a ∷ fs))
   give v (on-form o outer ∷ fs) =
       moves record {
         mode = returning v;

@@ -67,11 +67,11 @@ pub record ReadReady (sheet e run : List ℕ) (m : Registers) : Type 0 where
 
 -- ---- Giving a value
 
--- There is a frame, and the array of the run has its length.
+-- There is a frame, and room for one more, and the array of the run has its length.
 pub record FrameReady (run : List ℕ) (m : Registers) : Type 0 where
   pub size : length run ≡ runSize
   pub framed : 1 ≤ m .frames
-  pub inside : m .frames ≤ frameLimit
+  pub inside : m .frames < frameLimit
 
 -- The innermost frame's word is made another, which holds the value in a word. The index of the open forms is as it was.
 pub record Rewrites (m : Registers) (run run′ : List ℕ) (word : ℕ → ℕ) : Type 0 where

@@ -13,7 +13,7 @@ use Rattle.saiga.specs.Ask.{reasonNumber}
 use Rattle.saiga.specs.Sound.{RunningIn}
 use Rattle.sheets.specs.Scan.{Indexed}
 use Rattle.values.specs.Packed.{valueIn, packedLimit}
-use Rattle.engine.specs.FrameWords.{kindOf, leftKind, nodeKind}
+use Rattle.engine.specs.FrameWords.{kindOf, leftKind, nodeKind, forwardKind}
 use Rattle.engine.specs.Machine.{Machine, openForms, finishes, takes, stops, move, Next, stateOf}
 use Rattle.engine.specs.Decode.{sheetOf, machineOf, Holds}
 use Rattle.engine.specs.Steps.{Memory, Stepped, goes, waits}
@@ -51,8 +51,9 @@ module _ (sheet question : List ℕ) (capacity budget limit : ℕ) (m : Register
 abbrev pub Packs : Value → ℕ → Type 0
 Packs v p = (valueIn p ≡ v) × (p < packedLimit)
 
--- where a value is given to an application's or an attribute's frame, which is made one that holds it
+-- where a value is given to an application's, an attribute's or a forward's frame, which is made one that holds it
 abbrev pub PacksIn : Memory → Registers → ℕ → Type 0
 PacksIn mem m p =
     let kind = kindOf (getD (mem .words) (m .frames - 1) 0) in
-    m .returning ≡ true → 0 < m .frames → (kind ≡ leftKind → Packs (m .value) p) × (kind ≡ nodeKind → Packs (m .value) p)
+    m .returning ≡ true → 0 < m .frames
+    → (kind ≡ leftKind → Packs (m .value) p) × (kind ≡ nodeKind → Packs (m .value) p) × (kind ≡ forwardKind → Packs (m .value) p)

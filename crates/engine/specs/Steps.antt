@@ -15,8 +15,8 @@ use Rattle.saiga.specs.Expressions.{Head, base-literal, function-literal, if-he
 use Rattle.engine.specs.RunningPiece.{restOf}
 use Rattle.values.specs.Layout.{resultAt}
 use Rattle.values.specs.Packed.{valueIn}
-use Rattle.engine.specs.FrameWords.{pairOf, pairNode, pairAttribute, kindOf, ifKind, leftKind, skipKind, rightKind, nodeKind, formKind, rightWord, heldFunction, nodeWord, heldAttribute, parameterWord, heldNode}
-use Rattle.sheets.specs.Scan.{figurePlace, figureAt, indexed, ruleNumber}
+use Rattle.engine.specs.FrameWords.{pairOf, pairNode, pairAttribute, kindOf, ifKind, leftKind, skipKind, rightKind, nodeKind, parameterKind, formKind, rightWord, heldFunction, nodeWord, heldAttribute, parameterWord, heldNode, forwardWord}
+use Rattle.sheets.specs.Scan.{figurePlace, figureAt, indexed, ruleNumber, forwardNumber}
 use Rattle.saiga.specs.declared.Fields.{Fields}
 use Rattle.saiga.specs.Store.{fieldBytes}
 use Rattle.stores.specs.declared.Key.{Key}
@@ -142,33 +142,45 @@ keepsFigure mem m n a word v =
     let w = cacheWrite (mem .store) (m .kept) (fieldsFor record { node = n; attribute = a; word = word } v) in
     goes (answered m (w .1) v) record { store = w .0; words = mem .words; forms = mem .forms }
 
+-- One frame more is pushed, the forward's of attribute a: the form that was opened waits for attribute a of the node that its piece gives.
+abbrev pub forwarding : ℕ → Stepped → Stepped
+forwarding a (goes m mem) = goes (pushed m 0) (writeWord mem (m .frames) (forwardWord a))
+forwarding a waits = waits
+forwarding a finishes = finishes
+forwarding a (stops number) = stops number
+
+-- A form is opened around the piece whose length stands at `number`.
+unfoldable pub openPiece : List ℕ → Memory → Registers → ℕ → ℕ → ℕ → ℕ → Stepped
+openPiece sheet mem m n a word number =
+    let f = 4 * m .forms in
+    let start = number + 2 in
+    goes record {
+      returning = false;
+      at = start;
+      end = start + ofBytes (take 2 (drop number sheet));
+      frames = m .frames;
+      forms = m .forms + 1;
+      kept = m .kept;
+      steps = m .steps + 1;
+      value = m .value;
+    } record {
+      store = mem .store;
+      words = set (mem .words) (m .frames - 1) formKind;
+      forms = set (set (set (set (mem .forms) f (pairOf n a)) (f + 1) word) (f + 2) (m .at)) (f + 3) (m .end);
+    }
+
 module _ (sheet index : List ℕ) where
-  -- AttrApp of an occurrence that is not kept: its figure, or its rule inside a form
+  -- AttrApp of an occurrence that is not kept: its figure, or inside a form its rule, or else its kind's forward
   unfoldable pub openRule : Memory → Registers → ℕ → ℕ → ℕ → Stepped
   openRule mem m n a word =
-      let f = 4 * m .forms in
       let number = ruleNumber sheet index n a in
-      let start = number + 4 in
-      goes record {
-        returning = false;
-        at = start;
-        end = start + ofBytes (take 2 (drop (number + 2) sheet));
-        frames = m .frames;
-        forms = m .forms + 1;
-        kept = m .kept;
-        steps = m .steps + 1;
-        value = m .value;
-      } record {
-        store = mem .store;
-        words = set (mem .words) (m .frames - 1) formKind;
-        forms = set (set (set (set (mem .forms) f (pairOf n a)) (f + 1) word) (f + 2) (m .at)) (f + 3) (m .end);
-      }
+      cond (eqb number 0) (forwarding a (openPiece sheet mem m n a word (forwardNumber sheet index n))) (openPiece sheet mem m n a word number)
 
   unfoldable pub openFigure : Memory → Registers → ℕ → ℕ → ℕ → Option Value → Stepped
   openFigure mem m n a word none = openRule mem m n a word
   openFigure mem m n a word (some v) = keepsFigure mem m n a word v
 
-  -- of one that has a rule, with a circle and the limits before it
+  -- of one that has no figure, with a circle and the limits before it
   abbrev pub ruleDue : ℕ → ℕ → Memory → Registers → ℕ → ℕ → ℕ → Stepped
   ruleDue budget limit mem m n a word =
       cond (keyOpen (mem .forms) (m .forms) record { node = n; attribute = a; word = word }) (stops 20) (limited budget limit m (openRule mem m n a word))
@@ -199,7 +211,8 @@ module _ (sheet index : List ℕ) where
       (takeRight budget limit mem m (apply (valueIn (heldFunction w)) (m .value)))
       (cond (eqb (kindOf w) nodeKind) (goes (turned m) (writeWord mem (m .frames - 1) (parameterWord (heldAttribute w) packed)))
       (cond (eqb (kindOf w) formKind) (closeForm mem m)
-      (attributeDue budget limit mem m (nodeOf (valueIn (heldNode w))) (heldAttribute w)))))))
+      (cond (eqb (kindOf w) parameterKind) (attributeDue budget limit mem m (nodeOf (valueIn (heldNode w))) (heldAttribute w))
+      (goes (returned m 0 (thisParameter sheet (mem .forms) m)) (writeWord mem (m .frames - 1) (parameterWord (heldAttribute w) packed)))))))))
 
   unfoldable pub readNext : Memory → Registers → List ℕ → Stepped
   readNext mem m [] = waits

@@ -12,7 +12,7 @@ use Rattle.saiga.specs.Caching.{Counted}
 use Rattle.saiga.specs.Runs.{Traces}
 use Rattle.saiga.specs.Tally.{stepsIn}
 use Rattle.engine.specs.FrameWords.{kindOf, formKind}
-use Rattle.engine.specs.Machine.{Frame, on-if, on-left, on-skip, on-right, on-node, on-parameter, on-form, stateOf}
+use Rattle.engine.specs.Machine.{Frame, on-if, on-left, on-skip, on-right, on-node, on-parameter, on-forward, on-form, stateOf}
 use Rattle.engine.specs.Decode.{sheetOf, plainFrame}
 use Rattle.engine.specs.Steps.{Memory}
 use Rattle.engine.specs.Represents.{machineIn}
@@ -30,6 +30,7 @@ frameRow on-skip = none
 frameRow (on-right v) = some applicationsRow
 frameRow (on-node a) = none
 frameRow (on-parameter v a) = some a
+frameRow (on-forward a) = none
 frameRow (on-form o rest) = none
 
 -- the frame of a word

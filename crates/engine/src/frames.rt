@@ -4,7 +4,7 @@ ghost use mathlib.Core.Path.{_≡_};
 ghost use Prim.Native.Nat.{_<_};
 ghost use Rattle.saiga.specs.Limits.{attributeLimit, depthLimit};
 ghost use Rattle.values.specs.Packed.{packedLimit};
-ghost use Rattle.engine.specs.FrameWords.{kindOf, rightWord, heldFunction, nodeWord, heldAttribute, parameterWord, heldNode};
+ghost use Rattle.engine.specs.FrameWords.{kindOf, rightWord, heldFunction, nodeWord, heldAttribute, parameterWord, heldNode, forwardWord};
 ghost use Rattle.engine.specs.Decode.{formPlace};
 
 // IF waits for its condition, an application for its function.
@@ -15,7 +15,7 @@ pub const ON_LEFT: u64 = 1;
 // IF has taken its first branch; the second is passed over.
 pub const ON_SKIP: u64 = 2;
 
-// An application waits for its argument, an attribute for its node and for its parameter, a form for its value.
+// An application waits for its argument, an attribute for its node and for its parameter, a form for its value, a forward for its node.
 pub const ON_RIGHT: u64 = 3;
 
 pub const ON_NODE: u64 = 4;
@@ -23,6 +23,8 @@ pub const ON_NODE: u64 = 4;
 pub const ON_PARAMETER: u64 = 5;
 
 pub const ON_FORM: u64 = 6;
+
+pub const ON_FORWARD: u64 = 7;
 
 // As many attributes as there can be: by so much a node stands higher in a word than an attribute.
 pub const ATTRIBUTES: u64 = ATTRIBUTE_LIMIT as u64;
@@ -55,6 +57,13 @@ pub fn on_node(a: u64) -> u64
     ensures { λ r. ⌜ r ≡ nodeWord a ⌝ }
 {
     ON_NODE + 8 * a
+}
+
+pub fn on_forward(a: u64) -> u64
+    requires { ⌜ a < attributeLimit ⌝ }
+    ensures { λ r. ⌜ r ≡ forwardWord a ⌝ }
+{
+    ON_FORWARD + 8 * a
 }
 
 pub fn attribute(w: u64) -> u64

@@ -21,8 +21,8 @@ ghost use Rattle.values.specs.Packed.{valueIn};
 ghost use Rattle.engine.specs.FrameWords.{rightWord, heldFunction, parameterWord};
 ghost use Rattle.expressions.specs.Noted.{WidthOf};
 ghost use Rattle.engine.specs.RunningPiece.{pieceIn, restOf};
-ghost use Rattle.engine.specs.Steps.{goes, returned as returnedTo, pushed as pushedOn, answered as answeredBy, turned as turnedTo, thisNode, thisParameter, readNext, takeIf};
-ghost use Rattle.engine.specs.Decode.{formsIn, opensIn};
+ghost use Rattle.engine.specs.Steps.{goes, returned as returnedTo, pushed as pushedOn, answered as answeredBy, turned as turnedTo, forwarding, thisNode, thisParameter, readNext, takeIf};
+ghost use Rattle.engine.specs.Decode.{frameLimit, runSize, formsIn, opensIn};
 ghost use Rattle.engine.specs.Ready.{memoryOf, NodeReady, ParameterReady, ReadReady, FrameReady, Rewrites, PassReady, Passes, skipped};
 
 // The machine's state by value: whether a value is being returned, the rest of the running piece from `at` to `end`, the numbers of
@@ -223,6 +223,30 @@ pub fn take_node(memory: &mut [u64], m: Registers, a: u64) -> Registers
     let value = m.value;
     memory[top] = frames::on_parameter(a, values::packed::pack(value));
     turned(m)
+}
+
+// A forward's node: the parameter is that of the form on which the frame stands. `a` is the attribute's number.
+pub fn take_forward(sheet: &[u8], memory: &mut [u64], m: Registers, a: u64) -> Registers
+    requires { ⌜ FrameReady (now memory) m × (a < attributeLimit) × ParameterReady (now sheet) (now memory) m ⌝ }
+    ensures { λ r. ⌜ r ≡ returnedTo m 0 (thisParameter (now (sheet .entry)) (formsIn (now (memory .entry))) m) ⌝ }
+    ensures { λ r. ⌜ Rewrites m (now (memory .entry)) (now (memory .exit)) (parameterWord a) ⌝ }
+{
+    let v = this_parameter(sheet, memory, m);
+    let top = m.frames - 1;
+    let value = m.value;
+    memory[top] = frames::on_parameter(a, values::packed::pack(value));
+    returned(m, 0, v)
+}
+
+// The registers and the memory with a forward's frame more.
+pub fn push_forward(memory: &mut [u64], m: Registers, a: u64) -> Registers
+    requires { ⌜ (length (now memory) ≡ runSize) × (m .frames < frameLimit) × (a < attributeLimit) ⌝ }
+    ensures { λ r. ⌜ ((store : List ℕ) → goes r (memoryOf store (now (memory .exit))) ≡ forwarding a (goes m (memoryOf store (now (memory .entry))))) ⌝ }
+    ensures { λ r. ⌜ opensIn (now (memory .exit)) ≡ opensIn (now (memory .entry)) ⌝ }
+{
+    let top = m.frames;
+    memory[top] = frames::on_forward(a);
+    pushed(m, 0)
 }
 
 // The width of the expression at the front of the rest `e` of the running piece. Inside a form the sheet's check has noted it, less one. The question is

@@ -9,8 +9,9 @@ use lib.Dec.{eqb}
 use Rattle.saiga.specs.Values.{null, truth}
 use Rattle.saiga.specs.declared.Value.{Value}
 use Rattle.saiga.specs.Expressions.{Head, base-literal, function-literal, if-head, application-head, attribute-head, this-head, parameter-head, no-head, headOf}
+use Rattle.sheets.specs.Scan.{ruleNumber}
 use Rattle.engine.specs.declared.Registers.{Registers}
-use Rattle.engine.specs.Steps.{Memory, Stepped, goes, waits, finishes, stops, readHead, takeIf, within, closeForm, openRule, openFigure, takeKept, attributeDue, give, readNext, stepOf}
+use Rattle.engine.specs.Steps.{Memory, Stepped, goes, waits, finishes, stops, readHead, takeIf, within, closeForm, openPiece, openRule, openFigure, takeKept, attributeDue, give, readNext, stepOf}
 use Rattle.saiga.proofs.Preservation.{either}
 use Rattle.engine.proofs.Limited.{within-holds, right-holds, missing-holds}
 
@@ -43,9 +44,13 @@ module _ (sheet index : List ℕ) (limit : ℕ) (mem : Memory) (m : Registers) w
   if-counts before skip true = λ h. omega arith
   if-counts before skip false = λ h. omega arith
 
+  rule-counts : m .steps < limit → (n a word : ℕ) → Counts (openRule sheet index mem m n a word)
+  unfolding openRule openPiece
+  rule-counts before n a word = either Counts (eqb (ruleNumber sheet index n a) 0) (λ _ h. omega arith) (λ _ h. omega arith)
+
   figure-counts : m .steps < limit → (n a word : ℕ) (f : Option Value) → Counts (openFigure sheet index mem m n a word f)
-  unfolding openFigure openRule
-  figure-counts before n a word none = λ h. omega arith
+  unfolding openFigure
+  figure-counts before n a word none = rule-counts before n a word
   figure-counts before n a word (some v) = λ h. omega arith
 
   kept-counts : (budget n a : ℕ) (f : Option ℕ) → Counts (takeKept sheet index budget limit mem m n a f)
@@ -67,7 +72,7 @@ module _ (sheet index : List ℕ) (limit : ℕ) (mem : Memory) (m : Registers) w
       either Counts (eqb (w % 8) 3) (λ _. right-holds Counts budget limit mem m _ tt tt tt (λ _ before h. omega arith)) λ _.
       either Counts (eqb (w % 8) 4) (λ _ h. h) λ _.
       either Counts (eqb (w % 8) 6) (λ _ h. h) λ _.
-      attribute-counts budget _ _
+      either Counts (eqb (w % 8) 5) (λ _. attribute-counts budget _ _) (λ _ h. h)
 
   move-counts : (question : List ℕ) (budget skip packed : ℕ) → Counts (stepOf sheet index question budget limit skip packed mem m)
   unfolding stepOf

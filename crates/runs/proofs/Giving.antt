@@ -2,18 +2,17 @@
 use mathlib.Core.Bool.{Bool, true, false}
 use mathlib.Core.List.{List}
 use mathlib.Core.Path.{_≡_, refl, sym, ap, _∙_}
-use Prim.Native.Nat.{ℕ, suc, _-_, _%_, _≤_}
+use Prim.Native.Nat.{ℕ, suc, _-_}
 use native.Mathlib.Omega.{arith}
 use lib.ListN.{getD}
-use borrow.Author.Tests.{ne-eqb}
 use Rattle.saiga.specs.Values.{truth, nodeOf, apply}
 use Rattle.engine.specs.RunningPiece.{restOf}
 use Rattle.values.specs.Packed.{valueIn}
 use Rattle.stores.specs.Keys.{Linked}
 use Rattle.engine.specs.declared.Registers.{Registers}
-use Rattle.engine.specs.FrameWords.{kindOf, ifKind, leftKind, skipKind, rightKind, nodeKind, formKind, rightWord, heldFunction, heldAttribute, parameterWord, heldNode}
+use Rattle.engine.specs.FrameWords.{kindOf, ifKind, leftKind, skipKind, rightKind, nodeKind, parameterKind, formKind, rightWord, heldFunction, heldAttribute, parameterWord, heldNode}
 use Rattle.engine.specs.Decode.{wordsIn, formsIn, opensIn}
-use Rattle.engine.specs.Steps.{Memory, Stepped, goes, waits, finishes, stops, writeWord, turned, takeIf, takeRight, within, closeForm, attributeDue, give}
+use Rattle.engine.specs.Steps.{Memory, Stepped, goes, waits, finishes, stops, writeWord, returned, turned, thisParameter, takeIf, takeRight, within, closeForm, attributeDue, give}
 use Rattle.engine.specs.Represents.{PacksIn}
 use Rattle.engine.specs.Ready.{memoryOf, Rewrites, Passes, skipped}
 use Rattle.expressions.proofs.Widths.{width-of}
@@ -25,11 +24,7 @@ use Rattle.opens.specs.Opened.{Opened}
 use Rattle.opens.proofs.Opened.{opened-fewer}
 use Rattle.runs.specs.Moves.{GivesTo}
 use Rattle.runs.proofs.Limits.{within-keeps, right-keeps, kept-by, FormsStay, within-stays, right-stays, opened-by}
-use Rattle.runs.proofs.ReadyForAttributes.{Given, OtherKind, top-inside, late-kind, form-open}
-
--- one kind is no other
-no-kind : {kind k : ℕ} (j : ℕ) → kind ≡ k → (k ≡ j → ⊥) → kind ≡ j → ⊥
-no-kind j is other e = other (sym is ∙ e)
+use Rattle.runs.proofs.ReadyForAttributes.{Given, OtherKind, other-kind, top-inside, form-open}
 
 -- memory that is not touched
 still-same : (r : Step) (mem : Memory) → Still r mem mem
@@ -77,8 +72,12 @@ module _ (sheet index notes question store links run : List ℕ) (budget limit :
   Gives mem′ links′ opens′ r = GivesTo sheet index question budget limit mem mem′ links′ opens′ m w r
 
   -- nothing is packed
-  unpacked : (w % 8 ≡ 1 → ⊥) → (w % 8 ≡ 4 → ⊥) → PacksIn mem m 0
-  unpacked no-left no-node gives some = (λ e. absurd (no-left (rw is e)), λ e. absurd (no-node (rw is e)))
+  unpacked : {j : ℕ} → kindOf w ≡ j → (j ≡ 1 → ⊥) → (j ≡ 4 → ⊥) → (j ≡ 7 → ⊥) → PacksIn mem m 0
+  unpacked kind no-left no-node no-forward gives some = (
+    λ e. absurd (no-left (sym kind ∙ rw is e)),
+    λ e. absurd (no-node (sym kind ∙ rw is e)),
+    λ e. absurd (no-forward (sym kind ∙ rw is e)),
+  )
 
   -- the index of a store in which nothing is written
   unwritten : (r : Step) (mem′ : Memory) {st : Stepped} → steppedOf r mem′ ≡ st → keptIn (m .kept) st ≡ m .kept
@@ -100,7 +99,7 @@ module _ (sheet index notes question store links run : List ℕ) (budget limit :
         skip = passes .skip;
         packed = 0;
         width = rw at at (passes .width);
-        packs = unpacked (no-kind 1 kind (λ e. omega arith)) (no-kind 4 kind (λ e. omega arith));
+        packs = unpacked kind (λ e. omega arith) (λ e. omega arith) (λ e. omega arith);
         moved = rw kind (passes .after store);
         still = still store;
         linked = unwritten r (memoryOf store run′) (passes .after store) (within-keeps budget limit m _ (if-keeps (passes .skip) mem m (truth (m .value))));
@@ -120,7 +119,7 @@ module _ (sheet index notes question store links run : List ℕ) (budget limit :
         skip = skip;
         packed = 0;
         width = width;
-        packs = unpacked (no-kind 1 kind (λ e. omega arith)) (no-kind 4 kind (λ e. omega arith));
+        packs = unpacked kind (λ e. omega arith) (λ e. omega arith) (λ e. omega arith);
         moved = rw kind (steps mem);
         still = still-same r mem;
         linked = unwritten r mem (steps mem) (right-keeps budget limit mem m _);
@@ -128,8 +127,9 @@ module _ (sheet index notes question store links run : List ℕ) (budget limit :
       }
 
   -- the innermost frame is made one that holds the value
-  module _ (held : ℕ → ℕ) (run′ : List ℕ) {after : Registers} (turns : after ≡ turned m) (rewrites : Rewrites m run run′ held) where
-    turned-to : ((skip : ℕ) → goes (turned m) (writeWord mem (m .frames - 1) (held (rewrites .packed)))
+  module _ (held : ℕ → ℕ) (run′ : List ℕ) {next : Registers} (keeps : next .kept ≡ m .kept) (stays : next .forms ≡ m .forms) {after : Registers} (turns : after ≡ next)
+      (rewrites : Rewrites m run run′ held) where
+    turned-to : ((skip : ℕ) → goes next (writeWord mem (m .frames - 1) (held (rewrites .packed)))
         ≡ give sheet index budget limit skip (rewrites .packed) mem m w)
         → Gives (memoryOf store run′) links (opensIn run′) (Goes after)
     unfolding steppedOf keptAfter
@@ -139,25 +139,32 @@ module _ (sheet index notes question store links run : List ℕ) (budget limit :
           skip = skip;
           packed = rewrites .packed;
           width = width;
-          packs = λ gives some. (λ _. rewrites .packs, λ _. rewrites .packs);
+          packs = λ gives some. (λ _. rewrites .packs, λ _. rewrites .packs, λ _. rewrites .packs);
           moved = rw (turns, rewrites .written store) (by-kind skip);
           still = tt;
-          linked = rw turns (given .ready .linked);
+          linked = rw (turns, keeps) (given .ready .linked);
           opened =
-              unopened (Goes after) (memoryOf store run′) refl (ap (λ after. after .forms) (rewrites .written store), ap (λ m. m .forms) turns) tt
+              unopened (Goes after) (memoryOf store run′) refl (ap (λ after. after .forms) (rewrites .written store), ap (λ m. m .forms) turns ∙ stays) tt
               (rewrites .beyond);
         }
 
   pub gives-left : (run′ : List ℕ) (after : Registers) → k ≡ leftKind → after ≡ turned m → Rewrites m run run′ rightWord
       → Gives (memoryOf store run′) links (opensIn run′) (Goes after)
   unfolding give
-  gives-left run′ after key turns rewrites = turned-to rightWord run′ turns rewrites (λ skip. rw (of-kind key))
+  gives-left run′ after key turns rewrites = turned-to rightWord run′ refl refl turns rewrites (λ skip. rw (of-kind key))
 
   pub gives-node : (run′ : List ℕ) (after : Registers) (a : ℕ) → k ≡ nodeKind → after ≡ turned m → a ≡ heldAttribute w → Rewrites m run run′ (parameterWord a)
       → Gives (memoryOf store run′) links (opensIn run′) (Goes after)
   unfolding give
   gives-node run′ after a key turns attribute rewrites =
-      turned-to (parameterWord (heldAttribute w)) run′ turns (rw attribute at rewrites) (λ skip. rw (of-kind key))
+      turned-to (parameterWord (heldAttribute w)) run′ refl refl turns (rw attribute at rewrites) (λ skip. rw (of-kind key))
+
+  -- a forward has its node
+  pub gives-forward : (run′ : List ℕ) (after : Registers) (a : ℕ) → OtherKind k → after ≡ returned m 0 (thisParameter sheet (formsIn run) m) → a ≡ heldAttribute w
+      → Rewrites m run run′ (parameterWord a) → Gives (memoryOf store run′) links (opensIn run′) (Goes after)
+  unfolding give
+  gives-forward run′ after a other returns attribute rewrites =
+      turned-to (parameterWord (heldAttribute w)) run′ refl refl returns (rw attribute at rewrites) (λ skip. rw (of-kind (other-kind w (given .kind) other)))
 
   pub gives-skip : (e : List ℕ) (after : Registers) → k ≡ skipKind → e ≡ rest → Passes e (λ skip. after ≡ skipped m skip)
       → Gives mem links (opensIn run) (Goes after)
@@ -168,7 +175,7 @@ module _ (sheet index notes question store links run : List ℕ) (budget limit :
         skip = passes .skip;
         packed = 0;
         width = rw at at (passes .width);
-        packs = unpacked (no-kind 1 kind (λ e. omega arith)) (no-kind 4 kind (λ e. omega arith));
+        packs = unpacked kind (λ e. omega arith) (λ e. omega arith) (λ e. omega arith);
         moved = rw (kind, passes .after);
         still = tt;
         linked = rw (passes .after) (given .ready .linked);
@@ -188,7 +195,7 @@ module _ (sheet index notes question store links run : List ℕ) (budget limit :
         skip = skip;
         packed = 0;
         width = width;
-        packs = unpacked (no-kind 1 kind (λ e. omega arith)) (no-kind 4 kind (λ e. omega arith));
+        packs = unpacked kind (λ e. omega arith) (λ e. omega arith) (λ e. omega arith);
         moved = rw kind closed;
         still = tt;
         linked = linked;
@@ -196,29 +203,19 @@ module _ (sheet index notes question store links run : List ℕ) (budget limit :
       }
 
   -- AttrApp
-  pub gives-attribute : (mem′ : Memory) (links′ opens′ : List ℕ) (r : Step) → OtherKind k
+  pub gives-attribute : (mem′ : Memory) (links′ opens′ : List ℕ) (r : Step) → k ≡ parameterKind
       → steppedOf r mem′ ≡ attributeDue sheet index budget limit mem m (nodeOf (valueIn (heldNode w))) (heldAttribute w)
       → Linked (mem′ .store) (keptAfter r m) links′ → Opened (mem′ .forms) opens′ (formsAfter r m) → Still r mem mem′ → Gives mem′ links′ opens′ r
   unfolding give
-  gives-attribute mem′ links′ opens′ r other due linked opened still =
-      let late : 5 ≤ kindOf w = rw (given .kind) at (late-kind other) in
-      let no-form : kindOf w ≡ 6 → ⊥ = rw (given .kind) at (other .1) in
+  gives-attribute mem′ links′ opens′ r key due linked opened still =
+      let kind = of-kind key in
       let (skip, width) = width-of rest in
       record {
         skip = skip;
         packed = 0;
         width = width;
-        packs = unpacked (λ e. omega arith) (λ e. omega arith);
-        moved =
-            rw (
-              ne-eqb (w % 8) 0 (λ e. omega arith),
-              ne-eqb (w % 8) 1 (λ e. omega arith),
-              ne-eqb (w % 8) 2 (λ e. omega arith),
-              ne-eqb (w % 8) 3 (λ e. omega arith),
-              ne-eqb (w % 8) 4 (λ e. omega arith),
-              ne-eqb (w % 8) 6 no-form,
-            )
-            due;
+        packs = unpacked kind (λ e. omega arith) (λ e. omega arith) (λ e. omega arith);
+        moved = rw kind due;
         still = still;
         linked = linked;
         opened = opened;

@@ -1,5 +1,5 @@
 -- What represents a machine is ready for AttrApp and CacheWrite.
-use mathlib.Core.Bool.{true, false≢true}
+use mathlib.Core.Bool.{true}
 use mathlib.Core.List.{List}
 use mathlib.Core.Option.{some}
 use mathlib.Core.Path.{_≡_, sym, _∙_}
@@ -9,25 +9,24 @@ use lib.ListN.{length, getD}
 use borrow.Author.Tests.{ne-eqb}
 use Rattle.saiga.specs.Limits.{budgetLimit}
 use Rattle.saiga.specs.Values.{nodeOf}
-use Rattle.saiga.specs.Sheet.{Sheet, figured, ruled, isDefined}
-use Rattle.saiga.proofs.Accepted.{pair-defined}
+use Rattle.saiga.specs.Sheet.{Sheet}
 use Rattle.saiga.proofs.Entries.{store-in}
 use Rattle.saiga.proofs.FourBytes.{word-more}
-use Rattle.sheets.specs.Scan.{indexed}
 use Rattle.stores.specs.Keys.{keyOf}
 use Rattle.stores.proofs.ByKey.{kept-word}
 use Rattle.engine.specs.RunningPiece.{pieceIn, restOf}
 use Rattle.values.specs.Packed.{valueIn}
 use Rattle.engine.specs.declared.Registers.{Registers}
-use Rattle.engine.specs.FrameWords.{kindOf, ifKind, skipKind, parameterKind, formKind, heldAttribute, heldNode}
+use Rattle.engine.specs.FrameWords.{kindOf, ifKind, skipKind, parameterKind, formKind, forwardKind, heldAttribute, heldNode}
 use Rattle.engine.specs.Decode.{frameLimit, runSize, sheetOf, wordsIn}
 use Rattle.engine.specs.Represents.{Represents}
-use Rattle.engine.specs.Ready.{memoryOf, FrameReady, PassReady}
+use Rattle.engine.specs.Ready.{memoryOf, ParameterReady, FrameReady, PassReady}
 use Rattle.engine.proofs.Kept.{by-key}
 use Rattle.engine.proofs.RunMemory.{run-length, frame-at}
-use Rattle.engine.proofs.ReadyForCode.{rest-reaches, frames-inside, frame-ready, parameter-ready, if-starts, skip-starts}
+use Rattle.engine.proofs.ReadyForCode.{rest-reaches, frames-inside, frame-ready, parameter-ready, if-starts, skip-starts, forward-open}
+use Rattle.engine.proofs.Steps.{late-kind, last-kind}
 use Rattle.engine.proofs.Tracking.{pass-ready}
-use Rattle.engine.proofs.Attributes.{form-counted, form-not-kept, figure-not-open, due-in, attribute-is, definition-at}
+use Rattle.engine.proofs.Attributes.{form-counted, form-not-kept, figure-not-open, due-in, attribute-is, pair-indexed, some-piece}
 use Rattle.attributes.specs.Due.{WriteReady, CloseReady, AttributeReady}
 use Rattle.runs.specs.Moves.{MoveReady}
 
@@ -66,18 +65,14 @@ pub record Given (sheet index notes question store links run : List ℕ) (budget
   pub permitted : budget ≤ budgetLimit
   pub kind : k ≡ kindOf (getD run (m .frames - 1) 0)
 
--- That a kind is none of 0 to 4 and 6, as a `match` on it hands that to its last arm.
+-- That a kind is none of 0 to 6, as a `match` on it hands that to its last arm.
 abbrev pub OtherKind : ℕ → Type 0
-OtherKind k = (((((Unit {0} × (k ≡ 0 → ⊥)) × (k ≡ 1 → ⊥)) × (k ≡ 2 → ⊥)) × (k ≡ 3 → ⊥)) × (k ≡ 4 → ⊥)) × (k ≡ 6 → ⊥)
+OtherKind k = ((((((Unit {0} × (k ≡ 0 → ⊥)) × (k ≡ 1 → ⊥)) × (k ≡ 2 → ⊥)) × (k ≡ 3 → ⊥)) × (k ≡ 4 → ⊥)) × (k ≡ 5 → ⊥)) × (k ≡ 6 → ⊥)
 
-pub late-kind : {k : ℕ} → OtherKind k → 5 ≤ k
-late-kind {k} rest =
-    let no-if : k ≡ 0 → ⊥ = rest .0 .0 .0 .0 .0 .1 in
-    let no-left : k ≡ 1 → ⊥ = rest .0 .0 .0 .0 .1 in
-    let no-skip : k ≡ 2 → ⊥ = rest .0 .0 .0 .1 in
-    let no-right : k ≡ 3 → ⊥ = rest .0 .0 .1 in
-    let no-node : k ≡ 4 → ⊥ = rest .0 .1 in
-    omega arith
+pub other-kind : (w : ℕ) {k : ℕ} → k ≡ kindOf w → OtherKind k → k ≡ forwardKind
+other-kind w is rest =
+    let late = late-kind w (rw is at (rest .0 .0 .0 .0 .0 .0 .1)) (rw is at (rest .0 .0 .0 .0 .0 .1)) (rw is at (rest .0 .0 .0 .0 .1)) (rw is at (rest .0 .0 .0 .1)) (rw is at (rest .0 .0 .1)) in
+    is ∙ last-kind w late (rw is at (rest .1)) (rw is at (rest .0 .1))
 
 module _ (sheet index notes question store links run : List ℕ) (budget limit : ℕ) (m : Registers) (k : ℕ)
     (given : Given sheet index notes question store links run budget limit m k) where
@@ -135,31 +130,31 @@ module _ (sheet index notes question store links run : List ℕ) (budget limit :
   abbrev a : ℕ
   a = heldAttribute word
 
-  due-ready : parameterKind ≤ kindOf word → (kindOf word ≡ formKind → ⊥) → (n ≡ 65535 → ⊥) → AttributeReady sheet index store links run m n a
-  unfolding indexed figured ruled isDefined keyOf
-  due-ready late no-form no-null =
+  due-ready : kindOf word ≡ parameterKind → (n ≡ 65535 → ⊥) → AttributeReady sheet index store links run m n a
+  unfolding keyOf
+  due-ready kind no-null =
       let r = rep in
       let gives = given .gives in
       let some = given .some in
       let no-null-is = ne-eqb n 65535 no-null in
-      let o-in = due-in r gives some (by-key decoded) late no-form no-null-is in
+      let o-in = due-in r gives some (by-key decoded) kind no-null-is in
       record {
-        pair = record { sheet = decoded; known = r .index-of; node = o-in .node-declared; attribute = o-in .attribute-declared };
-        defined = λ no-figure no-rule. false≢true
-            (rw (definition-at r gives some (by-key decoded) late no-form no-null-is, no-figure, no-rule)
-            at (pair-defined sheet decoded (r .accepts) n a (o-in .node-declared) (o-in .attribute-declared)));
+        pair = pair-indexed r gives some (by-key decoded) kind no-null-is;
+        defined = some-piece r gives some (by-key decoded) kind no-null-is;
         kept-word = λ j found. word-more _ _ (r .index-of .described .nodes-bound)
-            (rw (attribute-is r gives some (by-key decoded) late no-form)
+            (rw (attribute-is r gives some (by-key decoded) kind)
             at (kept-word decoded store (m .kept) _ (r .holds .stored) record { node = n; attribute = a; parameter = m .value } o-in j found));
         writes = write-ready (given .ready);
         frame = framed;
         opened = given .ready .opened;
-        figure-closed = figure-not-open r gives some (by-key decoded) late no-form no-null-is;
+        figure-closed = figure-not-open r gives some (by-key decoded) kind no-null-is;
       }
 
-  pub attribute-ready : OtherKind k → (nodeOf (valueIn (heldNode w)) ≡ 65535 → ⊥)
+  pub attribute-ready : k ≡ parameterKind → (nodeOf (valueIn (heldNode w)) ≡ 65535 → ⊥)
       → AttributeReady sheet index store links run m (nodeOf (valueIn (heldNode w))) (heldAttribute w)
-  attribute-ready other no-null =
-      let late : 5 ≤ kindOf w = rw (given .kind) at (late-kind other) in
-      let no-form : kindOf w ≡ 6 → ⊥ = rw (given .kind) at (other .1) in
-      rw is (due-ready (rw is at late) (rw is at no-form) (rw is at no-null))
+  attribute-ready key no-null = rw is (due-ready (of-kind parameterKind key) (rw is at no-null))
+
+  -- a forward's frame is innermost: it stands on a form's
+  pub forward-ready : OtherKind k → ParameterReady sheet run m
+  forward-ready other =
+      parameter-ready run rep (run-size (given .ready)) (forward-open rep (given .gives) (given .some) (of-kind forwardKind (other-kind w (given .kind) other)))

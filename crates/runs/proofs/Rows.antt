@@ -9,11 +9,11 @@ use Rattle.saiga.specs.Limits.{budgetLimit, tallyRows, applicationsRow, conditi
 use Rattle.engine.specs.declared.Registers.{Registers}
 use Rattle.engine.specs.declared.Step.{Step}
 use Rattle.engine.specs.declared.Step.the-variants.{Goes, Waits, Finishes, Stops}
-use Rattle.engine.specs.FrameWords.{kindOf, ifKind, leftKind, skipKind, rightKind, nodeKind, formKind, heldAttribute}
+use Rattle.engine.specs.FrameWords.{kindOf, ifKind, leftKind, skipKind, rightKind, nodeKind, parameterKind, formKind, heldAttribute}
 use Rattle.engine.specs.Machine.{Frame}
 use Rattle.engine.specs.Tallied.{frameRow, wordRow, countedIn, rowsAfter, RowsWithin}
-use Rattle.engine.proofs.Decoding.{WordOf, if-kind, left-kind, skip-kind, right-kind, node-kind, parameter-kind}
-use Rattle.runs.proofs.ReadyForAttributes.{OtherKind, late-kind}
+use Rattle.engine.proofs.Decoding.{WordOf, if-kind, left-kind, skip-kind, right-kind, node-kind, parameter-kind, forward-kind}
+use Rattle.runs.proofs.ReadyForAttributes.{OtherKind, other-kind}
 
 -- ---- By what the move came to
 
@@ -56,10 +56,9 @@ module _ (k w : ℕ) (kind : k ≡ kindOf w) (rows : List ℕ) where
     unfolding frameRow
     rows-right key is = rw (frame-of (right-kind w (sym kind ∙ key))) is
 
-    pub rows-attribute : {a : ℕ} → OtherKind k → a ≡ heldAttribute w → after ≡ rowsAfter r (some a) rows → after ≡ rowsAfter r (wordRow w) rows
+    pub rows-attribute : {a : ℕ} → k ≡ parameterKind → a ≡ heldAttribute w → after ≡ rowsAfter r (some a) rows → after ≡ rowsAfter r (wordRow w) rows
     unfolding frameRow
-    rows-attribute other held is =
-        rw (frame-of (parameter-kind w (rw kind at (late-kind other)) (rw kind at (other .1)))) (rw held at is)
+    rows-attribute key held is = rw (frame-of (parameter-kind w (sym kind ∙ key))) (rw held at is)
 
   -- a move that is not counted
   module _ (m : Registers) where
@@ -74,6 +73,10 @@ module _ (k w : ℕ) (kind : k ≡ kindOf w) (rows : List ℕ) where
     pub rows-node : k ≡ nodeKind → rows ≡ rowsAfter (Goes m) (wordRow w) rows
     unfolding frameRow rowsAfter countedIn
     rows-node key = rw (frame-of (node-kind w (sym kind ∙ key)))
+
+    pub rows-forward : OtherKind k → rows ≡ rowsAfter (Goes m) (wordRow w) rows
+    unfolding frameRow rowsAfter countedIn
+    rows-forward other = rw (frame-of (forward-kind w (sym kind ∙ other-kind w kind other)))
 
     pub rows-form : k ≡ formKind → rows ≡ rowsAfter (Goes m) (wordRow w) rows
     unfolding wordRow rowsAfter countedIn

@@ -3,22 +3,22 @@
 use mathlib.Core.Bool.{Bool, true, false, cond, false≢true, _&&_, and-eq-true-iff}
 use mathlib.Core.Option.{Option, none, some}
 use mathlib.Core.List.{List, [], _∷_}
-use mathlib.Core.Path.{_≡_, refl, subst}
+use mathlib.Core.Path.{_≡_, refl, sym, _∙_, subst}
 use Prim.Native.Nat.{ℕ, zero, suc, _+_, _≤_, _<_}
 use native.Mathlib.Omega.{arith}
 use lib.Dec.{leb, ltb, eqb}
 use lib.ListN.{length, take, drop, getD, length-append, length-drop}
 use borrow.Author.Tests.{leb-true, ltb-true, eqb-true}
 use Rattle.saiga.specs.Limits.{sheetLimit, attributeLimit, nodeLimit}
-use Rattle.saiga.specs.Values.{base, Value, ofBytes, isWord}
+use Rattle.saiga.specs.Values.{Base, unitT, nodeT, base, Value, ofBytes, isWord}
 use Rattle.saiga.specs.Expressions.{Expr, Whole, no-expression, expression, readWhole}
-use Rattle.saiga.specs.Types.{attributeAt}
+use Rattle.saiga.specs.Types.{attributeAt, infer}
 use Rattle.saiga.specs.Gaps.{firstGap}
-use Rattle.saiga.specs.Sheet.{Figure, Rule, Sheet, emptySheet, nodeCount, attributeCount, figureFor, ruleFor, ruleScope, Definition, undefined, figure, piece-of, ruled, figured, definition, wholeExpr, definitionExpr, context, Command, attribute-command, node-command, figure-command, rule-command, end-command, no-command, commandOf, Read, stops_at-offset_, ends, goes-on, require, readAttribute, readNode, readFigure, requireRule, readRule, readEnd, readCommand, readNext, Checked, refused_at-place_, accepted, isDefined, defines, complete, readCommands, checkSheet}
-use Rattle.saiga.specs.Sound.{ExprIn, literal∈, All, all-none, all-cons, ContextIn}
+use Rattle.saiga.specs.Sheet.{Figure, Rule, Forward, Sheet, emptySheet, nodeCount, attributeCount, figureFor, ruleFor, forwardFor, ruleScope, forwardScope, Definition, undefined, figure, piece-of, forward-of, forwarded, ruled, figured, definition, wholeExpr, definitionExpr, context, Command, attribute-command, node-command, figure-command, rule-command, forward-command, end-command, no-command, commandOf, Read, stops_at-offset_, ends, goes-on, require, readAttribute, readNode, readFigure, requirePiece, readRule, readForward, readEnd, readCommand, readNext, Checked, refused_at-place_, accepted, isDefined, defines, complete, readCommands, checkSheet}
+use Rattle.saiga.specs.Sound.{ExprIn, literal∈, attribute∈, parameter∈, All, all-none, all-cons, ContextIn}
 use Rattle.saiga.proofs.FourBytes.{word-in}
 use Rattle.saiga.proofs.Inference.{hasType-sound}
-use Rattle.saiga.proofs.Reading.{read-in}
+use Rattle.saiga.proofs.Reading.{Wider, wider-reads, any-parameter, read-in}
 use Rattle.saiga.proofs.Gaps.{gap-law}
 
 pub record AcceptedSheet (s : Sheet) : Type 0 where
@@ -31,24 +31,28 @@ pub record AcceptedSheet (s : Sheet) : Type 0 where
 -- A definition is an expression of the attribute's type, on what the sheet declares.
 abbrev Gives : Sheet → ℕ → Definition → Type 0
 Gives s a d =
-    ExprIn (ruleScope s) (s .attributes) (attributeAt (s .attributes) a .parameter-type) (definitionExpr s d) (base (attributeAt (s .attributes) a .result))
+    ExprIn (ruleScope s) (s .attributes) (attributeAt (s .attributes) a .parameter-type) (definitionExpr s a d) (base (attributeAt (s .attributes) a .result))
 
 -- A definition's bytes are one expression.
 abbrev Reads : Sheet → Definition → Type 0
 Reads s undefined = Unit {0}
 Reads s (figure v) = Unit {0}
 Reads s (piece-of p) = (e : Expr) × (readWhole (ruleScope s) p ≡ expression e)
+Reads s (forward-of p) = (e : Expr) × (readWhole (forwardScope s) p ≡ expression e)
 
 -- What holds of the sheet between two commands. Attributes and nodes are declared only up to the part of the nodes, where there is
--- no figure and no rule yet, so each of those was checked on all that is declared.
+-- no figure, no rule and no forward yet, so each of those was checked on all that is declared.
 record SoFar (s : Sheet) (part : ℕ) : Type 0 where
   nodes-bound : nodeCount s ≤ nodeLimit
   attributes-bound : attributeCount s ≤ attributeLimit
   no-figures : part ≤ 1 → s .figures ≡ []
   no-rules : part ≤ 1 → s .rules ≡ []
+  no-forwards : part ≤ 1 → s .forwards ≡ []
   figures-give : All (λ f. Gives s (f .attribute) (figure (f .value))) (s .figures)
   rules-give : All (λ r. Gives s (r .attribute) (piece-of (r .piece))) (s .rules)
   rules-read : All (λ r. Reads s (piece-of (r .piece))) (s .rules)
+  forwards-give : (a : ℕ) → a < attributeCount s → All (λ f. Gives s a (forward-of (f .piece))) (s .forwards)
+  forwards-read : All (λ f. Reads s (forward-of (f .piece))) (s .forwards)
 
 -- the stops of a sheet
 abbrev StopNumber : ℕ → Type 0
@@ -68,12 +72,11 @@ module _ (s : Sheet) (part room : ℕ) where
   require-fits true number r n f = f refl
   require-fits false number r n f = n
 
-  require-rule-fits : (a : ℕ) (p : List ℕ) (w : Whole) (r : Read) → readWhole (ruleScope s) p ≡ w → (Gives s a (piece-of p) → Reads s (piece-of p) → Fit s part room r)
-      → Fit s part room (requireRule s a w r)
-  unfolding requireRule ruleScope definitionExpr wholeExpr
-  require-rule-fits a p no-expression r e f = omega arith
-  require-rule-fits a p (expression x) r e f =
-      require-fits _ 7 r (omega arith) λ t. f (rw (e, wholeExpr) (read-in (ruleScope s) _ _ p x _ refl e (hasType-sound _ _ _ x t))) (x, e)
+  require-piece-fits : (p t : Base) (w : Whole) (r : Read)
+      → ((e : Expr) → w ≡ expression e → infer (s .attributes) p e ≡ some (base t) → Fit s part room r) → Fit s part room (requirePiece s p t w r)
+  unfolding requirePiece
+  require-piece-fits p t no-expression r f = omega arith
+  require-piece-fits p t (expression e) r f = require-fits _ 7 r (omega arith) λ typed. f e refl (hasType-sound _ _ _ e typed)
 
   require-both-fits : (a b : Bool) (number : ℕ) (r : Read) → StopNumber number → (a ≡ true → b ≡ true → Fit s part room r)
       → Fit s part room (require (a && b) number r)
@@ -95,9 +98,12 @@ attribute-fits s part l =
         attributes-bound = rw length-append (omega (arith, tests));
         no-figures = λ p. h .no-figures (omega (arith, tests));
         no-rules = λ p. h .no-rules (omega (arith, tests));
+        no-forwards = λ p. h .no-forwards (omega (arith, tests));
         figures-give = rw (h .no-figures (omega (arith, tests))) all-none;
         rules-give = rw (h .no-rules (omega (arith, tests))) all-none;
         rules-read = rw (h .no-rules (omega (arith, tests))) all-none;
+        forwards-give = λ a declared. rw (h .no-forwards (omega (arith, tests))) all-none;
+        forwards-read = rw (h .no-forwards (omega (arith, tests))) all-none;
       },
     )
 
@@ -114,14 +120,17 @@ node-fits s part l =
         attributes-bound = h .attributes-bound;
         no-figures = λ p. h .no-figures (omega (arith, tests));
         no-rules = λ p. h .no-rules (omega (arith, tests));
+        no-forwards = λ p. h .no-forwards (omega (arith, tests));
         figures-give = rw (h .no-figures (omega (arith, tests))) all-none;
         rules-give = rw (h .no-rules (omega (arith, tests))) all-none;
         rules-read = rw (h .no-rules (omega (arith, tests))) all-none;
+        forwards-give = λ a declared. rw (h .no-forwards (omega (arith, tests))) all-none;
+        forwards-read = rw (h .no-forwards (omega (arith, tests))) all-none;
       },
     )
 
 figure-fits : (s : Sheet) (part : ℕ) (l : List ℕ) → Fit s part (suc (length l)) (readFigure s part l)
-unfolding readFigure ruleScope definitionExpr
+unfolding readFigure ruleScope forwardScope definitionExpr
 figure-fits s part l =
     let n = ofBytes (take 2 l) in
     let a = getD l 2 0 in
@@ -137,32 +146,76 @@ figure-fits s part l =
         attributes-bound = h .attributes-bound;
         no-figures = λ p. absurd (omega arith);
         no-rules = λ p. absurd (omega arith);
+        no-forwards = λ p. absurd (omega arith);
         figures-give = all-cons (literal∈ (word-in (nodeCount s) t w word)) (h .figures-give);
         rules-give = h .rules-give;
         rules-read = h .rules-read;
+        forwards-give = h .forwards-give;
+        forwards-read = h .forwards-read;
       },
     )
 
+-- the sheet with other rules and forwards
+with-pieces : (s : Sheet) (rules : List Rule) (forwards : List Forward) (part : ℕ) → SoFar s part → All (λ r. Gives s (r .attribute) (piece-of (r .piece))) rules
+    → All (λ r. Reads s (piece-of (r .piece))) rules → ((a : ℕ) → a < attributeCount s → All (λ f. Gives s a (forward-of (f .piece))) forwards)
+    → All (λ f. Reads s (forward-of (f .piece))) forwards
+    → SoFar record { attributes = s .attributes; kinds = s .kinds; figures = s .figures; rules = rules; forwards = forwards } 3
+unfolding ruleScope forwardScope definitionExpr
+with-pieces s rules forwards part h rules-give rules-read forwards-give forwards-read = record {
+  nodes-bound = h .nodes-bound;
+  attributes-bound = h .attributes-bound;
+  no-figures = λ p. absurd (omega arith);
+  no-rules = λ p. absurd (omega arith);
+  no-forwards = λ p. absurd (omega arith);
+  figures-give = h .figures-give;
+  rules-give = rules-give;
+  rules-read = rules-read;
+  forwards-give = forwards-give;
+  forwards-read = forwards-read;
+}
+
 rule-fits : (s : Sheet) (part : ℕ) (l : List ℕ) → Fit s part (suc (length l)) (readRule s part l)
-unfolding readRule ruleScope definitionExpr
+unfolding readRule ruleScope forwardScope definitionExpr wholeExpr
 rule-fits s part l =
     let n = ofBytes (take 2 (drop 2 l)) in
     require-both-fits s part _ (leb part 3 && leb (4 + n) (length l)) (leb 4 (length l)) 2 _ (omega arith) λ fit long.
     require-fits s part _ _ 4 _ (omega arith) λ declared.
     require-fits s part _ _ 5 _ (omega arith) λ new.
-    require-rule-fits s part _ _ _ _ _ refl λ gives reads.
+    require-piece-fits s part _ _ _ _ _ λ e reads typed.
     let fits : 4 + n ≤ length l = leb-true (4 + n) (length l) (and-eq-true-iff (leb part 3) (leb (4 + n) (length l)) .0 fit .1) in (
       omega arith,
       omega arith,
-      λ h. record {
-        nodes-bound = h .nodes-bound;
-        attributes-bound = h .attributes-bound;
-        no-figures = λ p. absurd (omega arith);
-        no-rules = λ p. absurd (omega arith);
-        figures-give = h .figures-give;
-        rules-give = all-cons gives (h .rules-give);
-        rules-read = all-cons reads (h .rules-read);
-      },
+      λ h. with-pieces s _ _ part h (all-cons (rw (reads, wholeExpr) (read-in (ruleScope s) _ _ _ e _ refl reads typed)) (h .rules-give)) (all-cons (e, reads) (h .rules-read))
+          (h .forwards-give) (h .forwards-read),
+    )
+
+-- What a forward may use, a rule may use.
+pub forward-in-rule : (s : Sheet) → Wider (forwardScope s) (ruleScope s)
+unfolding forwardScope ruleScope
+forward-in-rule s = record { nodes = refl; attributes = refl; has-this = λ h. h; has-parameter = λ h. refl }
+
+-- It is read in a rule's scope as it is in its own, and has its type with any type for 0x31.
+forward-gives : (s : Sheet) (p : List ℕ) (e : Expr) → readWhole (forwardScope s) p ≡ expression e → infer (s .attributes) unitT e ≡ some (base nodeT)
+    → (a : ℕ) → a < attributeCount s → Gives s a (forward-of p)
+unfolding forwardScope ruleScope definitionExpr wholeExpr
+forward-gives s p e reads typed a declared =
+    let in-rule = wider-reads (forwardScope s) (ruleScope s) (forward-in-rule s) p e reads in
+    let node = read-in (ruleScope s) (s .attributes) _ p e _ refl in-rule (sym (any-parameter (forwardScope s) (s .attributes) unitT _ p e refl reads) ∙ typed) in
+    rw (reads, wholeExpr) (attribute∈ declared node (parameter∈ refl))
+
+forward-fits : (s : Sheet) (part : ℕ) (l : List ℕ) → Fit s part (suc (length l)) (readForward s part l)
+unfolding readForward ruleScope forwardScope definitionExpr
+forward-fits s part l =
+    let n = ofBytes (take 2 (drop 1 l)) in
+    require-both-fits s part _ (leb part 3 && leb (3 + n) (length l)) (leb 3 (length l)) 2 _ (omega arith) λ fit long.
+    require-fits s part _ _ 4 _ (omega arith) λ declared.
+    require-fits s part _ _ 5 _ (omega arith) λ new.
+    require-piece-fits s part _ _ _ _ _ λ e reads typed.
+    let fits : 3 + n ≤ length l = leb-true (3 + n) (length l) (and-eq-true-iff (leb part 3) (leb (3 + n) (length l)) .0 fit .1) in (
+      omega arith,
+      omega arith,
+      λ h. with-pieces s _ _ part h (h .rules-give) (h .rules-read) (λ a q. all-cons (forward-gives s _ e reads typed a q) (h .forwards-give a q))
+          (all-cons (e, reads) (h .forwards-read)),
     )
 
 end-fits : (s : Sheet) (part : ℕ) (l : List ℕ) → Fit s part (suc (length l)) (readEnd l)
@@ -176,6 +229,7 @@ command-fits s part attribute-command l = attribute-fits s part l
 command-fits s part node-command l = node-fits s part l
 command-fits s part figure-command l = figure-fits s part l
 command-fits s part rule-command l = rule-fits s part l
+command-fits s part forward-command l = forward-fits s part l
 command-fits s part end-command l = end-fits s part l
 command-fits s part no-command l = omega arith
 
@@ -214,7 +268,7 @@ found P m n b a x o h rest = go (eqb m n && eqb b a) refl
     go true e = rw (eqb-true b a (and-eq-true-iff (eqb m n) (eqb b a) .0 e .1)) at h
     go false e = rest
 
--- What each figure and each rule gives its attribute, the definition in force gives the attribute `a`.
+-- What each figure and each rule gives its attribute, and each forward the attribute `a`, the definition in force gives `a`.
 module _ (P : ℕ → Definition → Type 0) (a : ℕ) where
   figure-found : (n : ℕ) (l : List Figure) → All (λ f. P (f .attribute) (figure (f .value))) l → Found (λ v. P a (figure v)) (figureFor l n a)
   unfolding figureFor
@@ -226,12 +280,22 @@ module _ (P : ℕ → Definition → Type 0) (a : ℕ) where
   rule-found k [] all-none = tt
   rule-found k (r ∷ l) (all-cons h t) = found (λ b p. P b (piece-of p)) (r .kind) k (r .attribute) a (r .piece) _ h (rule-found k l t)
 
-  in-force : (f : Option Value) (r : Option (List ℕ)) → Found (λ v. P a (figure v)) f → Found (λ p. P a (piece-of p)) r
-      → isDefined (figured f (ruled r)) ≡ true → P a (figured f (ruled r))
-  unfolding figured ruled isDefined
-  in-force (some v) r g h d = g
-  in-force none (some p) g h d = h
-  in-force none none g h d = absurd (false≢true d)
+  forward-found : (k : ℕ) (l : List Forward) → All (λ f. P a (forward-of (f .piece))) l → Found (λ p. P a (forward-of p)) (forwardFor l k)
+  unfolding forwardFor
+  forward-found k [] all-none = tt
+  forward-found k (f ∷ l) (all-cons h t) = go (eqb (f .kind) k) (forward-found k l t)
+    where
+      go : (b : Bool) → Found (λ p. P a (forward-of p)) (forwardFor l k) → Found (λ p. P a (forward-of p)) (cond b (some (f .piece)) (forwardFor l k))
+      go true rest = h
+      go false rest = rest
+
+  in-force : (f : Option Value) (r w : Option (List ℕ)) → Found (λ v. P a (figure v)) f → Found (λ p. P a (piece-of p)) r → Found (λ p. P a (forward-of p)) w
+      → isDefined (figured f (ruled r (forwarded w))) ≡ true → P a (figured f (ruled r (forwarded w)))
+  unfolding figured ruled forwarded isDefined
+  in-force (some v) r w g h i d = g
+  in-force none (some p) w g h i d = h
+  in-force none none (some p) g h i d = i
+  in-force none none none g h i d = absurd (false≢true d)
 
 -- ---- The verdict
 
@@ -239,6 +303,7 @@ abbrev Verdict : Checked Sheet → Type 0
 Verdict (refused number at-place place) = StopNumber number
 Verdict (accepted s) =
     AcceptedSheet s × ((k a : ℕ) → Found (λ p. Reads s (piece-of p)) (ruleFor (s .rules) k a))
+    × ((k : ℕ) → Found (λ p. Reads s (forward-of p)) (forwardFor (s .forwards) k))
     × ((n a : ℕ) → n < nodeCount s → a < attributeCount s → isDefined (definition s n a) ≡ true)
 
 -- Where the check finds no gap, every declared pair is defined.
@@ -256,11 +321,12 @@ complete-verdict s part none e h = (
     context-in = record {
       scope = ruleScope s;
       same-nodes = refl;
-      defines = λ n a p q. in-force (Gives s) a _ _ (figure-found (Gives s) a n (s .figures) (h .figures-give)) (rule-found (Gives s) a _ (s .rules) (h .rules-give))
-          (no-gap s e n a p q);
+      defines = λ n a p q. in-force (Gives s) a _ _ _ (figure-found (Gives s) a n (s .figures) (h .figures-give)) (rule-found (Gives s) a _ (s .rules) (h .rules-give))
+          (forward-found (Gives s) a _ (s .forwards) (h .forwards-give a q)) (no-gap s e n a p q);
     };
   },
   λ k a. rule-found (λ b d. Reads s d) a k (s .rules) (h .rules-read),
+  λ k. forward-found (λ b d. Reads s d) 0 k (s .forwards) (h .forwards-read),
   no-gap s e,
 )
 
@@ -282,7 +348,7 @@ sheet-verdict bytes = go (leb (length bytes) sheetLimit)
   where
     go : (b : Bool) → Verdict (cond b (readCommands (suc (length bytes)) emptySheet 0 0 bytes) (refused 1 at-place 0))
     go true = commands-verdict (suc (length bytes)) emptySheet 0 0 bytes
-        (record { nodes-bound = omega arith; attributes-bound = omega arith; no-figures = λ p. refl; no-rules = λ p. refl; figures-give = all-none; rules-give = all-none; rules-read = all-none })
+        (record { nodes-bound = omega arith; attributes-bound = omega arith; no-figures = λ p. refl; no-rules = λ p. refl; no-forwards = λ p. refl; figures-give = all-none; rules-give = all-none; rules-read = all-none; forwards-give = λ a declared. all-none; forwards-read = all-none })
     go false = omega arith
 
 pub accepted-sheet : (bytes : List ℕ) (s : Sheet) → checkSheet bytes ≡ accepted s → AcceptedSheet s
@@ -293,10 +359,15 @@ pub rule-reads : (bytes : List ℕ) (s : Sheet) → checkSheet bytes ≡ accepte
     → (e : Expr) × (readWhole (ruleScope s) p ≡ expression e)
 rule-reads bytes s e k a p f = subst (Found (λ p. Reads s (piece-of p))) f (subst Verdict e (sheet-verdict bytes) .1 k a)
 
+-- and so is every forward
+pub forward-reads : (bytes : List ℕ) (s : Sheet) → checkSheet bytes ≡ accepted s → (k : ℕ) (p : List ℕ) → forwardFor (s .forwards) k ≡ some p
+    → (e : Expr) × (readWhole (forwardScope s) p ≡ expression e)
+forward-reads bytes s e k p f = subst (Found (λ p. Reads s (forward-of p))) f (subst Verdict e (sheet-verdict bytes) .2 k)
+
 -- an accepted sheet defines every declared pair
 pub pair-defined : (bytes : List ℕ) (s : Sheet) → checkSheet bytes ≡ accepted s → (n a : ℕ) → n < nodeCount s → a < attributeCount s
     → isDefined (definition s n a) ≡ true
-pair-defined bytes s e = subst Verdict e (sheet-verdict bytes) .2
+pair-defined bytes s e = subst Verdict e (sheet-verdict bytes) .3
 
 pub refused-numbers : (bytes : List ℕ) (number place : ℕ) → checkSheet bytes ≡ refused number at-place place → (1 ≤ number) × (number ≤ 8)
 refused-numbers bytes number place e = subst Verdict e (sheet-verdict bytes)

@@ -5,6 +5,7 @@ pub mod TableStores
 pub mod TableTypes
 pub mod TableTally
 pub mod TableOverflow
+pub mod TableForwards
 pub mod FourBytes
 pub mod Equality
 pub mod Inference
@@ -29,4 +30,5 @@ pub mod Tallies
 pub mod Safety
 pub mod Demand3
 pub mod PlainCircles
+pub mod Forwards
 pub mod TableCircles

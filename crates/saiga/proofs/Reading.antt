@@ -1,13 +1,14 @@
 -- Reading an expression from bytes: the bound on the nesting is never reached, and what is read stands within its bytes and its scope.
-use mathlib.Core.Bool.{Bool, true, false}
-use mathlib.Core.List.{List, [], _∷_}
+use mathlib.Core.Bool.{Bool, true, false, false≢true}
+use mathlib.Core.List.{List, [], _∷_, _++_}
 use mathlib.Core.Option.{some}
-use mathlib.Core.Path.{_≡_, refl}
+use mathlib.Core.Path.{_≡_, refl, sym, _∙_}
 use Prim.Native.Nat.{ℕ, zero, suc, _+_, _≤_}
 use native.Mathlib.Omega.{arith}
 use lib.Dec.{leb, ltb, eqb}
-use lib.ListN.{length, take, drop, getD, length-drop}
-use borrow.Author.Tests.{leb-true, eqb-true}
+use lib.ListN.{length, take, drop, getD, length-append, length-drop, List·getD-append}
+use lib.Seq.{take-append-le, drop-append-le}
+use borrow.Author.Tests.{leb-true, eqb-true, le-leb, eq-eqb}
 use Rattle.saiga.specs.Limits.{expressionLimit}
 use Rattle.saiga.specs.Values.{Base, Ty, Function, le, equalInt, equalNode, negation, add, subtract, function, functionOf, functionType, typeOf, Value, ofBytes, isWord}
 use Rattle.saiga.specs.Expressions.{Expr, literal, if, application, attribute, this, parameter, Head, base-literal, function-literal, if-head, application-head, attribute-head, this-head, parameter-head, no-head, headOf, operandWidth, Scope, Reading, malformed, reads, _followed-by_, whenever, readOperand, readAfter, readExpr, no-expression, expression, exactly, readWhole}
@@ -49,6 +50,63 @@ read-fuel s (suc k) zero [] p q = refl
 read-fuel s (suc k) zero (c ∷ l) p q = absurd (omega arith)
 read-fuel s (suc k) (suc j) [] p q = refl
 read-fuel s (suc k) (suc j) (c ∷ l) p q = after-agrees s _ _ (headOf c) l λ m h. read-fuel s k j m (omega arith) (omega arith)
+
+-- ---- A wider scope
+
+-- What is declared is the same, and what may be used here may be used there.
+pub record Wider (s t : Scope) : Type 0 where
+  pub nodes : t .nodes ≡ s .nodes
+  pub attributes : t .attributes ≡ s .attributes
+  pub has-this : s .has-this ≡ true → t .has-this ≡ true
+  pub has-parameter : s .has-parameter ≡ true → t .has-parameter ≡ true
+
+-- what is read here is read there
+abbrev Stays : Reading → Reading → Type 0
+Stays malformed r = Unit {0}
+Stays (reads e w) r = r ≡ reads e w
+
+followed-stays : (q r : Reading) (f g : Expr → ℕ → Reading) → Stays q r → ((e : Expr) (w : ℕ) → q ≡ reads e w → Stays (f e w) (g e w))
+    → Stays (q followed-by f) (r followed-by g)
+unfolding _followed-by_
+followed-stays malformed r f g same rest = tt
+followed-stays (reads e w) r f g same rest = rw same (rest e w refl)
+
+whenever-stays : (a b : Bool) (q r : Reading) → (a ≡ true → b ≡ true) → (a ≡ true → Stays q r) → Stays (whenever a q) (whenever b r)
+unfolding whenever
+whenever-stays true b q r here same = rw (here refl) (same refl)
+whenever-stays false b q r here same = tt
+
+stays-refl : (r : Reading) → Stays r r
+stays-refl malformed = tt
+stays-refl (reads e w) = refl
+
+after-stays : (s t : Scope) → Wider s t → (f g : List ℕ → Reading) (h : Head) (l : List ℕ) → ((m : List ℕ) → Stays (f m) (g m))
+    → Stays (readAfter s f h l) (readAfter t g h l)
+unfolding readAfter readOperand
+after-stays s t wider f g (base-literal b) l sub = rw (wider .nodes) (stays-refl (readOperand s b l))
+after-stays s t wider f g function-literal l sub = stays-refl (readAfter s f function-literal l)
+after-stays s t wider f g if-head l sub =
+    followed-stays (f l) (g l) _ _ (sub l) λ c m C.
+    followed-stays (f (drop m l)) (g (drop m l)) _ _ (sub (drop m l)) λ u n U.
+    followed-stays (f (drop (m + n) l)) (g (drop (m + n) l)) _ _ (sub (drop (m + n) l)) λ e o E. refl
+after-stays s t wider f g application-head l sub =
+    followed-stays (f l) (g l) _ _ (sub l) λ u m U.
+    followed-stays (f (drop m l)) (g (drop m l)) _ _ (sub (drop m l)) λ x n X. refl
+after-stays s t wider f g attribute-head l sub =
+    rw (wider .attributes)
+    (whenever-stays (leb 1 (length l)) _ _ _ (λ some. some) λ some.
+    whenever-stays (ltb (getD l 0 0) (s .attributes)) _ _ _ (λ declared. declared) λ declared.
+    followed-stays (f (drop 1 l)) (g (drop 1 l)) _ _ (sub (drop 1 l)) λ n m N.
+    followed-stays (f (drop (1 + m) l)) (g (drop (1 + m) l)) _ _ (sub (drop (1 + m) l)) λ x o X. refl)
+after-stays s t wider f g this-head l sub = whenever-stays _ _ _ _ (wider .has-this) λ here. refl
+after-stays s t wider f g parameter-head l sub = whenever-stays _ _ _ _ (wider .has-parameter) λ here. refl
+after-stays s t wider f g no-head l sub = tt
+
+reading-stays : (s t : Scope) → Wider s t → (k : ℕ) (l : List ℕ) → Stays (readExpr s k l) (readExpr t k l)
+unfolding readExpr
+reading-stays s t wider zero l = tt
+reading-stays s t wider (suc k) [] = tt
+reading-stays s t wider (suc k) (c ∷ l) = after-stays s t wider _ _ (headOf c) l λ m. reading-stays s t wider k m
 
 -- ---- What is read
 
@@ -157,3 +215,80 @@ whole-reads s l e h = exactly-reads (length l) _ e (cond-passes (leb (length l) 
 pub read-in : (sc : Scope) (sig : List Attribute) (p : Base) (l : List ℕ) (e : Expr) (T : Ty) → sc .attributes ≡ length sig → readWhole sc l ≡ expression e
     → infer sig p e ≡ some T → ExprIn sc sig p e T
 read-in sc sig p l e T _ r t = let g = rw (whole-reads sc l e r) at (reading-in sc (length l) l) in in-scope-typed (g .0) (infer-sound e t)
+
+-- ---- Without 0x31
+
+pub wider-reads : (s t : Scope) → Wider s t → (l : List ℕ) (e : Expr) → readWhole s l ≡ expression e → readWhole t l ≡ expression e
+unfolding readWhole exactly
+wider-reads s t wider l e h =
+    let short = cond-passes (leb (length l) expressionLimit) h no-whole .0 in
+    let here = whole-reads s l e h in
+    let there = rw here at (reading-stays s t wider (length l) l) in
+    rw (short, there, eq-eqb (length l) (length l) refl)
+
+-- An expression that was read where 0x31 may not be used has one type, whatever type 0x31 has.
+pub any-parameter : (sc : Scope) (sig : List Attribute) (p q : Base) (l : List ℕ) (e : Expr) → sc .has-parameter ≡ false → readWhole sc l ≡ expression e
+    → infer sig p e ≡ infer sig q e
+unfolding infer
+any-parameter sc sig p q l e none r = go e (rw (whole-reads sc l e r) at (reading-in sc (length l) l) .0)
+  where
+    go : (e : Expr) → InScope sc e → infer sig p e ≡ infer sig q e
+    go _ (literal-in v) = refl
+    go _ (if-in c t e) = rw (go _ c, go _ t, go _ e)
+    go _ (application-in f x) = rw (go _ f, go _ x)
+    go _ (attribute-in n x) = rw (go _ n, go _ x)
+    go _ (this-in h) = refl
+    go _ (parameter-in h) = absurd (false≢true (sym none ∙ h))
+
+-- ---- More bytes behind
+
+-- Each part with `m` behind it, where that holds of the shorter expressions inside.
+module _ (s : Scope) (f : List ℕ → Reading) (m : List ℕ) (sub : (j : List ℕ) → Stays (f j) (f (j ++ m)))
+    (width : (j : List ℕ) (e : Expr) (w : ℕ) → f j ≡ reads e w → w ≤ length j) where
+  longer : (n : ℕ) (l : List ℕ) → leb n (length l) ≡ true → leb n (length (l ++ m)) ≡ true
+  longer n l fits = let h = leb-true n (length l) fits in le-leb n (length (l ++ m)) (rw length-append (omega arith))
+
+  first-behind : (l : List ℕ) → leb 1 (length l) ≡ true → getD (l ++ m) 0 0 ≡ getD l 0 0
+  first-behind l fits = let h = leb-true 1 (length l) fits in List·getD-append l m 0 0 (omega arith)
+
+  rest-behind : (n : ℕ) (l : List ℕ) → n ≤ length l → Stays (f (drop n l)) (f (drop n (l ++ m)))
+  rest-behind n l fits = rw (drop-append-le n l m fits) (sub (drop n l))
+
+  after-behind : (h : Head) (l : List ℕ) → Stays (readAfter s f h l) (readAfter s f h (l ++ m))
+  unfolding readAfter readOperand
+  after-behind (base-literal t) l =
+      whenever-stays (leb (operandWidth t) (length l)) (leb (operandWidth t) (length (l ++ m))) _ _ (longer (operandWidth t) l) λ fits.
+      rw (take-append-le (operandWidth t) l m (leb-true (operandWidth t) (length l) fits))
+      (whenever-stays (isWord (s .nodes) t (ofBytes (take (operandWidth t) l))) _ _ _ (λ word. word) λ word. refl)
+  after-behind function-literal l =
+      whenever-stays (leb 1 (length l)) (leb 1 (length (l ++ m))) _ _ (longer 1 l) λ fits.
+      rw (first-behind l fits) (whenever-stays (ltb (getD l 0 0) 6) _ _ _ (λ known. known) λ known. refl)
+  after-behind if-head l =
+      followed-stays (f l) (f (l ++ m)) _ _ (sub l) λ c i C.
+      followed-stays (f (drop i l)) (f (drop i (l ++ m))) _ _ (rest-behind i l (width l c i C)) λ t n T.
+      followed-stays (f (drop (i + n) l)) (f (drop (i + n) (l ++ m))) _ _
+      (rest-behind (i + n) l (omega (arith, length-drop i l, width l c i C, width (drop i l) t n T))) λ e o E. refl
+  after-behind application-head l =
+      followed-stays (f l) (f (l ++ m)) _ _ (sub l) λ g i G.
+      followed-stays (f (drop i l)) (f (drop i (l ++ m))) _ _ (rest-behind i l (width l g i G)) λ x n X. refl
+  after-behind attribute-head l =
+      whenever-stays (leb 1 (length l)) (leb 1 (length (l ++ m))) _ _ (longer 1 l) λ fits.
+      rw (first-behind l fits)
+      (whenever-stays (ltb (getD l 0 0) (s .attributes)) _ _ _ (λ declared. declared) λ declared.
+      let some = leb-true 1 (length l) fits in
+      followed-stays (f (drop 1 l)) (f (drop 1 (l ++ m))) _ _ (rest-behind 1 l some) λ n i N.
+      followed-stays (f (drop (1 + i) l)) (f (drop (1 + i) (l ++ m))) _ _
+      (rest-behind (1 + i) l (omega (arith, length-drop 1 l, width (drop 1 l) n i N))) λ x o X. refl)
+  after-behind this-head l = stays-refl (whenever (s .has-this) (reads this 1))
+  after-behind parameter-head l = stays-refl (whenever (s .has-parameter) (reads parameter 1))
+  after-behind no-head l = tt
+
+reading-behind : (s : Scope) (k : ℕ) (m l : List ℕ) → Stays (readExpr s k l) (readExpr s k (l ++ m))
+unfolding readExpr
+reading-behind s zero m l = tt
+reading-behind s (suc k) m [] = tt
+reading-behind s (suc k) m (c ∷ l) = after-behind s _ m (λ j. reading-behind s k m j) (λ j e w h. read-width s k j e w h .1) (headOf c) l
+
+-- What reads as an expression reads as the same with more bytes behind it, which it leaves.
+pub read-behind : (s : Scope) (k : ℕ) (l m : List ℕ) (e : Expr) (w : ℕ) → readExpr s k l ≡ reads e w → readExpr s k (l ++ m) ≡ reads e w
+read-behind s k l m e w h = rw h at (reading-behind s k m l)

@@ -11,7 +11,7 @@ use Rattle.saiga.specs.Values.{Base, unitT, boolT, intT, nodeT, Ty, base
 use Rattle.saiga.specs.Expressions.{Expr, Scope}
 use Rattle.saiga.specs.Types.{Attribute, attributeAt, Typed}
 use Rattle.saiga.specs.Types as Types
-use Rattle.saiga.specs.Sheet.{Sheet, nodeCount, attributeCount, figureFor, ruleFor, ruled, figured, definition, isDefined, context, accepted, checkSheet, questionScope}
+use Rattle.saiga.specs.Sheet.{Sheet, nodeCount, attributeCount, figureFor, ruleFor, forwardFor, forwarded, ruled, figured, definition, isDefined, context, accepted, checkSheet, questionScope}
 use Rattle.saiga.specs.Terms.{Term, val, cond, app, attr, form}
 use Rattle.saiga.specs.Sound.{IsA, ValueIn, ExprIn, literal∈, if∈, application∈, attribute∈, this∈, parameter∈, TermIn, val∈, cond∈, app∈, attr∈, form∈}
 use Rattle.saiga.specs.Store.{capacity}
@@ -19,7 +19,7 @@ use Rattle.saiga.specs.Ask.{asked}
 use Rattle.saiga.specs.Safety.{Canonical, Takes, takes-first, takes-second, InForce, RuleDue, cond-left, cond-bool, app-left, app-right, app-app, attr-left, attr-right, attr-null, attr-app, cache-left, cache-write, Progress, at-value, at-rule, TypeSafety}
 use Rattle.saiga.proofs.FourBytes.{in-type}
 use Rattle.saiga.proofs.Inference.{infer-complete}
-use Rattle.saiga.proofs.Accepted.{accepted-sheet, rule-reads, pair-defined}
+use Rattle.saiga.proofs.Accepted.{accepted-sheet, rule-reads, forward-reads, pair-defined}
 use Rattle.saiga.proofs.Preservation.{no-function, put-in, due-occurrence, kept-in, plain-at-in, reaches-in}
 use Rattle.saiga.proofs.Entries.{store-in}
 use Rattle.saiga.proofs.Calls.{question-in}
@@ -50,14 +50,19 @@ module _ (sheet : List ℕ) (s : Sheet) (ok : checkSheet sheet ≡ accepted s) w
   sig = s .attributes
 
   in-force : (n a : ℕ) → n < nodeCount s → a < attributeCount s → InForce s (definition s n a)
-  unfolding definition figured ruled isDefined
-  in-force n a hn ha = go (figureFor (s .figures) n a) (ruleFor (s .rules) (getD (s .kinds) n 0) a) refl (pair-defined sheet s ok n a hn ha)
+  unfolding definition figured ruled forwarded isDefined
+  in-force n a hn ha =
+      go (figureFor (s .figures) n a) (ruleFor (s .rules) kind a) (forwardFor (s .forwards) kind) refl refl (pair-defined sheet s ok n a hn ha)
     where
-      go : (f : Option Value) (r : Option (List ℕ)) → ruleFor (s .rules) (getD (s .kinds) n 0) a ≡ r → isDefined (figured f (ruled r)) ≡ true
-          → InForce s (figured f (ruled r))
-      go (some v) r e d = tt
-      go none (some p) e d = rule-reads sheet s ok (getD (s .kinds) n 0) a p e
-      go none none e d = absurd (false≢true d)
+      kind : ℕ
+      kind = getD (s .kinds) n 0
+
+      go : (f : Option Value) (r w : Option (List ℕ)) → ruleFor (s .rules) kind a ≡ r → forwardFor (s .forwards) kind ≡ w
+          → isDefined (figured f (ruled r (forwarded w))) ≡ true → InForce s (figured f (ruled r (forwarded w)))
+      go (some v) r w e h d = tt
+      go none (some p) w e h d = rule-reads sheet s ok kind a p e
+      go none none (some p) e h d = forward-reads sheet s ok kind p h
+      go none none none e h d = absurd (false≢true d)
 
   module _ {F : Type 0} where
     if-due : {c t e : Term F} → Progress s (base boolT) c → RuleDue s (cond c t e)

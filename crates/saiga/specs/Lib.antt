@@ -20,6 +20,7 @@ pub mod Calls
 pub mod Tallies
 pub mod Demand3
 pub mod PlainCircles
+pub mod Forwards
 pub mod TableL
 pub mod Rows
 pub mod Misreadings
@@ -29,3 +30,4 @@ pub mod TableTypes
 pub mod TableTally
 pub mod TableOverflow
 pub mod TableCircles
+pub mod TableForwards

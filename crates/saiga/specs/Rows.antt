@@ -66,6 +66,10 @@ the-parameter = 0x31 ∷ []
 abbrev pub rule-for : ℕ → ℕ → List ℕ → List ℕ
 rule-for kind a e = 0x52 ∷ kind ∷ a ∷ length e ∷ 0 ∷ e
 
+-- the forward for a kind, of such an expression
+abbrev pub forward-for : ℕ → List ℕ → List ℕ
+forward-for kind e = 0x46 ∷ kind ∷ length e ∷ 0 ∷ e
+
 -- ---- Rows
 
 -- one question

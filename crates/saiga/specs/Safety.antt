@@ -10,7 +10,7 @@ use lib.IntN.{ℤ}
 use Rattle.saiga.specs.Values.{Base, unitT, boolT, intT, nodeT, Ty, base, _⇒_, Value, unit, bool, int, node, Function, function, Holding, holding, functionType, holdingType, null}
 use Rattle.saiga.specs.Expressions.{Expr, expression, readWhole}
 use Rattle.saiga.specs.Types.{attributeAt, infer}
-use Rattle.saiga.specs.Sheet.{Sheet, nodeCount, ruleScope, Definition, undefined, figure, piece-of, definition, context, accepted, checkSheet}
+use Rattle.saiga.specs.Sheet.{Sheet, nodeCount, ruleScope, forwardScope, Definition, undefined, figure, piece-of, forward-of, definition, context, accepted, checkSheet}
 use Rattle.saiga.specs.Terms.{Occurrence, Term, val, cond, app, attr, form}
 use Rattle.saiga.specs.Plain.{Plain, plainAt}
 use Rattle.saiga.specs.Caching.{Entry, kept, State}
@@ -38,6 +38,7 @@ abbrev pub InForce : Sheet → Definition → Type 0
 InForce s undefined = ⊥
 InForce s (figure v) = Unit {0}
 InForce s (piece-of p) = (e : Expr) × (readWhole (ruleScope s) p ≡ expression e)
+InForce s (forward-of p) = (e : Expr) × (readWhole (forwardScope s) p ≡ expression e)
 
 -- The rule that is due at an expression (001, figures 6, 8 and 10), with what it looks at. A value has none, so where a rule for the
 -- whole needs a value of a part, no rule for that part applies.

@@ -6,8 +6,8 @@ use Prim.Native.Nat.{ℕ, zero, suc, _+_}
 use lib.Dec.{leb, ltb, eqb}
 use lib.ListN.{length, take, drop, getD}
 use Rattle.saiga.specs.Limits.{sheetLimit, attributeLimit, nodeLimit, lastKind}
-use Rattle.saiga.specs.Values.{baseOf, base, Value, unit, ofBytes, isWord, ofWord}
-use Rattle.saiga.specs.Expressions.{Expr, literal, Scope, Whole, no-expression, expression, readWhole}
+use Rattle.saiga.specs.Values.{Base, unitT, nodeT, baseOf, base, Value, unit, ofBytes, isWord, ofWord}
+use Rattle.saiga.specs.Expressions.{Expr, literal, attribute, parameter, Scope, Whole, no-expression, expression, readWhole}
 use Rattle.saiga.specs.Types.{Attribute, attributeAt, hasType}
 use Rattle.saiga.specs.Gaps.{firstGap}
 
@@ -24,15 +24,21 @@ pub record Rule : Type 0 where
   pub attribute : ℕ
   pub piece : List ℕ
 
--- The attributes and the nodes' kinds in the order of their numbers, the figures and the rules.
+-- A kind's forward (document 02, F-7), whose expression is a piece as a rule's is.
+pub record Forward : Type 0 where
+  pub kind : ℕ
+  pub piece : List ℕ
+
+-- The attributes and the nodes' kinds in the order of their numbers, the figures, the rules and the forwards.
 pub record Sheet : Type 0 where
   pub attributes : List Attribute
   pub kinds : List ℕ
   pub figures : List Figure
   pub rules : List Rule
+  pub forwards : List Forward
 
 abbrev pub emptySheet : Sheet
-emptySheet = record { attributes = []; kinds = []; figures = []; rules = [] }
+emptySheet = record { attributes = []; kinds = []; figures = []; rules = []; forwards = [] }
 
 abbrev pub nodeCount : Sheet → ℕ
 nodeCount s = length (s .kinds)
@@ -48,51 +54,68 @@ unfoldable pub ruleFor : List Rule → ℕ → ℕ → Option (List ℕ)
 ruleFor [] k a = none
 ruleFor (r ∷ l) k a = cond (eqb (r .kind) k && eqb (r .attribute) a) (some (r .piece)) (ruleFor l k a)
 
+unfoldable pub forwardFor : List Forward → ℕ → Option (List ℕ)
+forwardFor [] k = none
+forwardFor (f ∷ l) k = cond (eqb (f .kind) k) (some (f .piece)) (forwardFor l k)
+
 -- ---- The context
 
--- Where a rule's expression and a question stand.
+-- Where a rule's expression, a forward's ("may use 0x30 but not 0x31") and a question stand.
 unfoldable pub ruleScope : Sheet → Scope
 ruleScope s = record { nodes = nodeCount s; attributes = attributeCount s; has-this = true; has-parameter = true }
+
+unfoldable pub forwardScope : Sheet → Scope
+forwardScope s = record { nodes = nodeCount s; attributes = attributeCount s; has-this = true; has-parameter = false }
 
 unfoldable pub questionScope : Sheet → Scope
 questionScope s = record { nodes = nodeCount s; attributes = attributeCount s; has-this = false; has-parameter = false }
 
--- The definition in force: "the figure for (n, a) if there is one, else the rule for n's kind and a".
+-- The definition in force: "the figure for (n, a) if there is one, else the rule for n's kind and a"; and "where a pair has neither figure nor rule and its
+-- kind has a forward", that.
 pub data Definition : Type 0 where
   undefined : Definition
   figure : Value → Definition
   piece-of : List ℕ → Definition
+  forward-of : List ℕ → Definition
 
-unfoldable pub ruled : Option (List ℕ) → Definition
-ruled none = undefined
-ruled (some p) = piece-of p
+unfoldable pub forwarded : Option (List ℕ) → Definition
+forwarded none = undefined
+forwarded (some p) = forward-of p
+
+unfoldable pub ruled : Option (List ℕ) → Definition → Definition
+ruled none d = d
+ruled (some p) d = piece-of p
 
 unfoldable pub figured : Option Value → Definition → Definition
 figured none d = d
 figured (some v) d = figure v
 
 unfoldable pub definition : Sheet → ℕ → ℕ → Definition
-definition s n a = figured (figureFor (s .figures) n a) (ruled (ruleFor (s .rules) (getD (s .kinds) n 0) a))
+definition s n a =
+    let k = getD (s .kinds) n 0 in
+    figured (figureFor (s .figures) n a) (ruled (ruleFor (s .rules) k a) (forwarded (forwardFor (s .forwards) k)))
 
--- The expression of a definition. σ(n, a, v) is this one "with n and v put for 0x30 and 0x31" (Terms.antt). An accepted sheet
--- defines every declared pair, so the cases that stand for nothing are never met there (Accepted.antt).
+-- The expression of a definition of attribute a. By a forward f it is "attribute a of f with parameter v": f's piece is in the sheet, the rest of the expression
+-- is not. σ(n, a, v) is this one "with n and v put for 0x30 and 0x31" (Terms.antt). An accepted sheet defines every declared pair, so the cases that stand for
+-- nothing are never met there (Accepted.antt).
 unfoldable pub wholeExpr : Whole → Expr
 wholeExpr no-expression = literal unit
 wholeExpr (expression e) = e
 
-unfoldable pub definitionExpr : Sheet → Definition → Expr
-definitionExpr s undefined = literal unit
-definitionExpr s (figure v) = literal v
-definitionExpr s (piece-of p) = wholeExpr (readWhole (ruleScope s) p)
+unfoldable pub definitionExpr : Sheet → ℕ → Definition → Expr
+definitionExpr s a undefined = literal unit
+definitionExpr s a (figure v) = literal v
+definitionExpr s a (piece-of p) = wholeExpr (readWhole (ruleScope s) p)
+definitionExpr s a (forward-of p) = attribute (wholeExpr (readWhole (forwardScope s) p)) a parameter
 
 unfoldable pub context : Sheet → ℕ → ℕ → Expr
-context s n a = definitionExpr s (definition s n a)
+context s n a = definitionExpr s a (definition s n a)
 
 -- ---- Commands
 
--- "0x41 attribute, 0x4E node, 0x56 figure, 0x52 rule, 0x5A end"
+-- "0x41 attribute, 0x4E node, 0x56 figure, 0x52 rule, 0x5A end"; and 0x46, forward
 pub data Command : Type 0 where
-  attribute-command node-command figure-command rule-command end-command no-command : Command
+  attribute-command node-command figure-command rule-command forward-command end-command no-command : Command
 
 unfoldable pub commandOf : ℕ → Command
 commandOf c =
@@ -100,9 +123,10 @@ commandOf c =
     (cond (eqb c 0x4E) node-command
     (cond (eqb c 0x56) figure-command
     (cond (eqb c 0x52) rule-command
-    (cond (eqb c 0x5A) end-command no-command))))
+    (cond (eqb c 0x46) forward-command
+    (cond (eqb c 0x5A) end-command no-command)))))
 
--- "in this order of kind": the part of the sheet that a command stands in
+-- "in this order of kind": the part of the sheet that a command stands in. A forward "stands among the rules in any order".
 abbrev pub attribute-part : ℕ
 attribute-part = 0
 
@@ -133,7 +157,7 @@ unfoldable pub require : Bool → ℕ → Read → Read
 require true number r = r
 require false number r = stops number at-offset 0
 
--- Each of the five below has what follows the command's byte, `l`, and makes its tests in the order of the stops. All but `readEnd` have
+-- Each of the six below has what follows the command's byte, `l`, and makes its tests in the order of the stops. All but `readEnd` have
 -- the part reached: the end may follow any part.
 
 unfoldable pub readAttribute : Sheet → ℕ → List ℕ → Read
@@ -150,6 +174,7 @@ readAttribute s part l =
             kinds = s .kinds;
             figures = s .figures;
             rules = s .rules;
+            forwards = s .forwards;
           };
     })))
 
@@ -167,6 +192,7 @@ readNode s part l =
             kinds = s .kinds ++ getD l 0 0 ∷ [];
             figures = s .figures;
             rules = s .rules;
+            forwards = s .forwards;
           };
     })))
 
@@ -192,15 +218,14 @@ readFigure s part l =
             kinds = s .kinds;
             figures = record { node = n; attribute = a; value = ofWord t w } ∷ s .figures;
             rules = s .rules;
+            forwards = s .forwards;
           };
     })))
 
--- stop 6 for a piece that is no expression, 7 for one that has not its attribute's type
-unfoldable pub requireRule : Sheet → ℕ → Whole → Read → Read
-requireRule s a no-expression r = stops 6 at-offset 0
-requireRule s a (expression e) r =
-    let t = attributeAt (s .attributes) a in
-    require (hasType (s .attributes) (t .parameter-type) (base (t .result)) e) 7 r
+-- stop 6 for a piece that is no expression, 7 for one that has not the type; `p` is the type of 0x31
+unfoldable pub requirePiece : Sheet → Base → Base → Whole → Read → Read
+requirePiece s p t no-expression r = stops 6 at-offset 0
+requirePiece s p t (expression e) r = require (hasType (s .attributes) p (base t) e) 7 r
 
 unfoldable pub readRule : Sheet → ℕ → List ℕ → Read
 readRule s part l =
@@ -208,10 +233,11 @@ readRule s part l =
     let a = getD l 1 0 in
     let n = ofBytes (take 2 (drop 2 l)) in
     let p = take n (drop 4 l) in
+    let t = attributeAt (s .attributes) a in
     require (leb part rule-part && leb (4 + n) (length l) && leb 4 (length l)) 2
     (require (leb k lastKind && ltb a (attributeCount s)) 4
     (require (isNone (ruleFor (s .rules) k a)) 5
-    (requireRule s a (readWhole (ruleScope s) p)
+    (requirePiece s (t .parameter-type) (t .result) (readWhole (ruleScope s) p)
     (goes-on record {
       width = 5 + n;
       part = rule-part;
@@ -221,6 +247,30 @@ readRule s part l =
             kinds = s .kinds;
             figures = s .figures;
             rules = record { kind = k; attribute = a; piece = p } ∷ s .rules;
+            forwards = s .forwards;
+          };
+    }))))
+
+-- "kind (1), length 1 to 256 (2), expression", of type Node. There is no 0x31 in it, so any type may stand for 0x31's (Forwards.antt).
+unfoldable pub readForward : Sheet → ℕ → List ℕ → Read
+readForward s part l =
+    let k = getD l 0 0 in
+    let n = ofBytes (take 2 (drop 1 l)) in
+    let p = take n (drop 3 l) in
+    require (leb part rule-part && leb (3 + n) (length l) && leb 3 (length l)) 2
+    (require (leb k lastKind) 4
+    (require (isNone (forwardFor (s .forwards) k)) 5
+    (requirePiece s unitT nodeT (readWhole (forwardScope s) p)
+    (goes-on record {
+      width = 4 + n;
+      part = rule-part;
+      sheet =
+          record {
+            attributes = s .attributes;
+            kinds = s .kinds;
+            figures = s .figures;
+            rules = s .rules;
+            forwards = record { kind = k; piece = p } ∷ s .forwards;
           };
     }))))
 
@@ -234,6 +284,7 @@ readCommand s part attribute-command l = readAttribute s part l
 readCommand s part node-command l = readNode s part l
 readCommand s part figure-command l = readFigure s part l
 readCommand s part rule-command l = readRule s part l
+readCommand s part forward-command l = readForward s part l
 readCommand s part end-command l = readEnd l
 readCommand s part no-command l = stops 2 at-offset 0
 
@@ -254,6 +305,7 @@ unfoldable pub isDefined : Definition → Bool
 isDefined undefined = false
 isDefined (figure v) = true
 isDefined (piece-of p) = true
+isDefined (forward-of p) = true
 
 abbrev pub defines : Sheet → ℕ → ℕ → Bool
 defines s n a = isDefined (definition s n a)

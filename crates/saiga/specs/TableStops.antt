@@ -121,7 +121,7 @@ sheets =
 -- Stop 3 for a 1,025th node and not for a 1,024th, whose kind 16 is then stop 4: of the one command, for a sheet with all the others
 -- takes long to read.
 abbrev pub node-after : ℕ → Read
-node-after count = readNode record { attributes = []; kinds = replicate count 0; figures = []; rules = [] } node-part (16 ∷ 0x5A ∷ [])
+node-after count = readNode record { attributes = []; kinds = replicate count 0; figures = []; rules = []; forwards = [] } node-part (16 ∷ 0x5A ∷ [])
 
 -- ---- The stops of the question
 

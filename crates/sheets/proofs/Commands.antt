@@ -9,8 +9,8 @@ use lib.ListN.{length, take, drop, getD, set}
 use borrow.Author.Tests.{lt-ltb, le-ltb, le-leb, lt-leb, eq-eqb, ne-eqb, not-true, not-false}
 use Rattle.saiga.specs.Values.{Base, baseCode, baseOf, Ty, base, _⇒_, ofBytes, isWord}
 use Rattle.saiga.specs.Expressions.{Expr, Whole, no-expression, expression, readWhole}
-use Rattle.saiga.specs.Types.{Attribute, infer, hasType}
-use Rattle.saiga.specs.Sheet.{Command, attribute-command, node-command, figure-command, rule-command, end-command, no-command, commandOf}
+use Rattle.saiga.specs.Types.{infer, hasType}
+use Rattle.saiga.specs.Sheet.{Command, attribute-command, node-command, figure-command, rule-command, forward-command, end-command, no-command, commandOf}
 use Rattle.values.specs.Cells.{emptied}
 use Rattle.values.specs.Layout.{resultAt, parameterAt, attributesIn}
 use Rattle.saiga.proofs.Inference.{base-of-code, hasType-sound, hasType-complete}
@@ -21,7 +21,7 @@ use Rattle.expressions.proofs.TypeNumbers.{base-small, number-positive}
 use Rattle.sheets.specs.declared.Progress.{Progress}
 use Rattle.sheets.specs.declared.Read.{Read}
 use Rattle.sheets.specs.declared.Read.the-variants.{Stops, Ends, GoesOn}
-use Rattle.sheets.specs.Scan.{figurePlace, rulePlace, pieceAt, Scanned, stops_at-offset_, ends, goes-on, demand, scanAttribute, scanNode, scanFigure, demandRule, scanRule, scanEnd, scanAt, scanCommand, ReadAs}
+use Rattle.sheets.specs.Scan.{figurePlace, rulePlace, forwardPlace, pieceAt, Scanned, stops_at-offset_, ends, goes-on, demand, scanAttribute, scanNode, scanFigure, demandPiece, scanPiece, scanRule, scanForward, scanEnd, scanAt, scanCommand, PieceAsked, ReadAs}
 
 -- ---- What the code reads
 
@@ -123,7 +123,7 @@ module _ (bytes : List ℕ) (p : Progress) (index : List ℕ) where
             unfolding scanFigure demand
             figure-goes-on h = went-on (rw (le-leb _ _ early, le-leb _ _ long, ← node, lt-ltb _ _ declared-node, ← attribute, lt-ltb _ _ declared, ← word, ← typed, ← test, not-false t is-word, ← here, eq-eqb _ _ h))
 
--- ---- A rule
+-- ---- A piece
 
 -- Only a base type has its number.
 base-by-number : (B : Base) (T : Ty) → typeNumber T ≡ baseCode B + 1 → T ≡ base B
@@ -133,25 +133,25 @@ base-by-number B (base C) e =
     ap base (sym (base-of-code C) ∙ ap baseOf codes ∙ base-of-code B)
 base-by-number B (C ⇒ T) e = absurd (omega (arith, base-small B, number-positive T))
 
-module _ (bytes : List ℕ) (p : Progress) (a : ℕ) (r : Scanned) where
-  rule-unread : (sig : List Attribute) (B : Base) (w : Whole) → NoExpression ≡ formedOf sig B w → demandRule bytes p a w r ≡ stops 6 at-offset 0
-  unfolding demandRule formedOf
-  rule-unread sig B no-expression e = refl
-  rule-unread sig B (expression x) e = absurd (let z : _≡_ {A = ℕ} 0 1 = cc in omega arith)
+module _ (bytes : List ℕ) (p : Progress) (q B : Base) (r : Scanned) where
+  piece-unread : (w : Whole) → NoExpression ≡ formedOf (attributesIn bytes (p .attributes)) q w → demandPiece bytes p q B w r ≡ stops 6 at-offset 0
+  unfolding demandPiece formedOf
+  piece-unread no-expression e = refl
+  piece-unread (expression x) e = absurd (let z : _≡_ {A = ℕ} 0 1 = cc in omega arith)
 
   module _ (t : ℕ) where
     abbrev TypedAs : Whole → Type 0
-    TypedAs w = Expression t ≡ formedOf (attributesIn bytes (p .attributes)) (baseOf (parameterAt bytes a)) w
+    TypedAs w = Expression t ≡ formedOf (attributesIn bytes (p .attributes)) q w
 
-    -- the inferred type's number is the attribute's result type's
+    -- the number of the piece's type
     abbrev number : ℕ
-    number = baseCode (baseOf (resultAt bytes a)) + 1
+    number = baseCode B + 1
 
     abbrev Fits : Expr → Bool
-    Fits x = hasType (attributesIn bytes (p .attributes)) (baseOf (parameterAt bytes a)) (base (baseOf (resultAt bytes a))) x
+    Fits x = hasType (attributesIn bytes (p .attributes)) q (base B) x
 
     abbrev inferred : Expr → Option Ty
-    inferred x = infer (attributesIn bytes (p .attributes)) (baseOf (parameterAt bytes a)) x
+    inferred x = infer (attributesIn bytes (p .attributes)) q x
 
     number-of : (x : Expr) → TypedAs (expression x) → t ≡ inferredNumber (inferred x)
     unfolding formedOf
@@ -169,19 +169,60 @@ module _ (bytes : List ℕ) (p : Progress) (a : ℕ) (r : Scanned) where
     unfolding inferredNumber
     well-typed x e same = hasType-complete _ _ _ x (go (inferred x) (sym (number-of x e) ∙ same))
       where
-        go : (I : Option Ty) → inferredNumber I ≡ number → I ≡ some (base (baseOf (resultAt bytes a)))
+        go : (I : Option Ty) → inferredNumber I ≡ number → I ≡ some (base B)
         go none h = absurd (omega arith)
-        go (some T) h = ap some (base-by-number (baseOf (resultAt bytes a)) T h)
+        go (some T) h = ap some (base-by-number B T h)
 
-    rule-ill-typed : (w : Whole) → TypedAs w → (t ≡ number → ⊥) → demandRule bytes p a w r ≡ stops 7 at-offset 0
-    unfolding demandRule demand formedOf
-    rule-ill-typed no-expression e differs = absurd (let z : _≡_ {A = ℕ} 0 1 = cc in omega arith)
-    rule-ill-typed (expression x) e differs = rw (ill-typed x e differs)
+    piece-ill-typed : (w : Whole) → TypedAs w → (t ≡ number → ⊥) → demandPiece bytes p q B w r ≡ stops 7 at-offset 0
+    unfolding demandPiece demand formedOf
+    piece-ill-typed no-expression e differs = absurd (let z : _≡_ {A = ℕ} 0 1 = cc in omega arith)
+    piece-ill-typed (expression x) e differs = rw (ill-typed x e differs)
 
-    rule-typed : (w : Whole) → TypedAs w → t ≡ number → demandRule bytes p a w r ≡ r
-    unfolding demandRule demand formedOf
-    rule-typed no-expression e same = absurd (let z : _≡_ {A = ℕ} 0 1 = cc in omega arith)
-    rule-typed (expression x) e same = rw (well-typed x e same)
+    piece-typed : (w : Whole) → TypedAs w → t ≡ number → demandPiece bytes p q B w r ≡ r
+    unfolding demandPiece demand formedOf
+    piece-typed no-expression e same = absurd (let z : _≡_ {A = ℕ} 0 1 = cc in omega arith)
+    piece-typed (expression x) e same = rw (well-typed x e same)
+
+module _ (bytes : List ℕ) (p : Progress) (index : List ℕ) (place before : ℕ) (has-parameter : Bool) (q t : ℕ) where
+  abbrev scan : Scanned
+  scan = scanPiece bytes p index place before has-parameter (baseOf q) (baseOf t)
+
+  pub piece-twice : (getD index place 0 ≡ 0 → ⊥) → ReadAs (Stops 5 0) index index scan
+  unfolding scanPiece demand
+  piece-twice h = stopped (rw (ne-eqb _ _ h))
+
+  module _ (n : ℕ) (formed : Formed) (new : getD index place 0 ≡ 0) (size : n ≡ ofBytes (take 2 (drop (before + 1) bytes)))
+      (read : formed ≡ formedOf (attributesIn bytes (p .attributes)) (baseOf q)
+      (readWhole (scopeOf (p .nodes) (p .attributes) true has-parameter) (take (before + 3 + n - (before + 3)) (drop (before + 3) bytes)))) where
+    abbrev whole : Whole
+    whole = readWhole (scopeOf (p .nodes) (p .attributes) true has-parameter) (take (before + 3 + n - (before + 3)) (drop (before + 3) bytes))
+
+    abbrev further : Scanned
+    further = goes-on record { at = before + 3 + n; part = 3; attributes = p .attributes; nodes = p .nodes } (set index place (before + 1))
+
+    read-on : scan ≡ demandPiece bytes p (baseOf q) (baseOf t) whole further
+    unfolding scanPiece demand pieceAt
+    read-on =
+        let e : before + 3 + n - (before + 3) ≡ n = omega arith in
+        rw (e, ← size, eq-eqb _ _ new)
+
+    pub piece-no-expression : formed ≡ NoExpression → ReadAs (Stops 6 0) index index scan
+    piece-no-expression h = stopped (read-on ∙ piece-unread bytes p _ _ _ _ (sym h ∙ read))
+
+    module _ (u number : ℕ) (typed : formed ≡ Expression u) (number-is : number ≡ baseCode (baseOf t) + 1) where
+      pub piece-type : (u ≡ number → ⊥) → ReadAs (Stops 7 0) index index scan
+      piece-type h = stopped (read-on ∙ piece-ill-typed bytes p _ _ _ u _ (sym typed ∙ read) λ e. h (e ∙ sym number-is))
+
+      pub piece-goes-on : u ≡ number → ReadAs (GoesOn record { at = before + 3 + n; part = 3; attributes = p .attributes; nodes = p .nodes }) (set index place (before + 1)) index scan
+      piece-goes-on h = went-on (read-on ∙ piece-typed bytes p _ _ _ u _ (sym typed ∙ read) (h ∙ number-is))
+
+-- ---- A rule
+
+pub rule-asked : {bytes : List ℕ} {at n k a place : ℕ} → n ≡ ofBytes (take 2 (drop (at + 3) bytes)) → at + 5 + n ≤ length bytes → k ≤ 15
+    → a < 32 → place ≡ rulePlace k a → PieceAsked bytes at place (at + 2)
+rule-asked {at} size whole few small here =
+    let length-at : at + 2 + 1 ≡ at + 3 = omega arith in
+    record { low = omega arith; high = omega arith; behind = omega arith; room = rw (length-at, ← size) (omega arith) }
 
 module _ (bytes : List ℕ) (p : Progress) (index : List ℕ) (early : p .part ≤ 3) where
   pub rule-short : length bytes < p .at + 5 → ReadAs (Stops 2 0) index index (scanRule bytes p index)
@@ -203,43 +244,40 @@ module _ (bytes : List ℕ) (p : Progress) (index : List ℕ) (early : p .part �
         unfolding scanRule demand
         rule-attribute h = stopped (rw (le-leb _ _ early, le-leb _ _ long, ← size, le-leb _ _ whole, ← kind, le-leb _ _ few, ← attribute, le-ltb _ _ h))
 
-        module _ (declared : a < p .attributes) (place : ℕ) (here : place ≡ rulePlace k a) where
-          pub rule-twice : (getD index place 0 ≡ 0 → ⊥) → ReadAs (Stops 5 0) index index (scanRule bytes p index)
-          unfolding scanRule demand
-          rule-twice h = stopped (rw (le-leb _ _ early, le-leb _ _ long, ← size, le-leb _ _ whole, ← kind, le-leb _ _ few, ← attribute, lt-ltb _ _ declared, ← here, ne-eqb _ _ h))
+        -- what is read of its piece
+        pub rule-piece : {place parameter result : ℕ} {r : Read} {after : List ℕ} → a < p .attributes → place ≡ rulePlace k a → parameter ≡ parameterAt bytes a → result ≡ resultAt bytes a
+            → ReadAs r after index (scanPiece bytes p index place (p .at + 2) true (baseOf parameter) (baseOf result)) → ReadAs r after index (scanRule bytes p index)
+        unfolding scanRule demand
+        rule-piece declared here parameter-is result-is read =
+            rw (le-leb _ _ early, le-leb _ _ long, ← size, le-leb _ _ whole, ← kind, le-leb _ _ few, ← attribute, lt-ltb _ _ declared, ← here, ← parameter-is, ← result-is) read
 
-          -- what is read of the piece, with the code of the parameter's type
-          abbrev Formed-as : ℕ → Formed → Type 0
-          Formed-as code formed =
-              formed ≡ formedOf (attributesIn bytes (p .attributes)) (baseOf code)
-              (readWhole (scopeOf (p .nodes) (p .attributes) true true) (take (p .at + 5 + n - (p .at + 5)) (drop (p .at + 5) bytes)))
+-- ---- A forward
 
-          module _ (new : getD index place 0 ≡ 0) where
-            -- all tests on the operands are passed
-            read-on : scanRule bytes p index
-                ≡ demandRule bytes p a (readWhole (scopeOf (p .nodes) (p .attributes) true true) (take (p .at + 5 + n - (p .at + 5)) (drop (p .at + 5) bytes)))
-                (goes-on record { at = p .at + 5 + n; part = 3; attributes = p .attributes; nodes = p .nodes } (set index place (p .at + 1)))
-            unfolding scanRule demand pieceAt
-            read-on =
-                let e : p .at + 5 + n - (p .at + 5) ≡ n = omega arith in
-                rw (le-leb _ _ early, le-leb _ _ long, e, ← size, le-leb _ _ whole, ← kind, le-leb _ _ few, ← attribute, lt-ltb _ _ declared, ← here, eq-eqb _ _ new)
+pub forward-asked : {bytes : List ℕ} {at n k place : ℕ} → n ≡ ofBytes (take 2 (drop (at + 2) bytes)) → at + 4 + n ≤ length bytes → k ≤ 15
+    → place ≡ forwardPlace k → PieceAsked bytes at place (at + 1)
+forward-asked {at} size whole few here =
+    let length-at : at + 1 + 1 ≡ at + 2 = omega arith in
+    record { low = omega arith; high = omega arith; behind = omega arith; room = rw (length-at, ← size) (omega arith) }
 
-            module _ (parameter : ℕ) (formed : Formed) (parameter-is : parameter ≡ parameterAt bytes a) (read : Formed-as parameter formed) where
-              read-as-typed : Formed-as (parameterAt bytes a) formed
-              read-as-typed = rw parameter-is at read
+module _ (bytes : List ℕ) (p : Progress) (index : List ℕ) (early : p .part ≤ 3) where
+  pub forward-short : length bytes < p .at + 4 → ReadAs (Stops 2 0) index index (scanForward bytes p index)
+  unfolding scanForward demand
+  forward-short h = stopped (rw (le-leb _ _ early, lt-leb _ _ h))
 
-              pub rule-no-expression : formed ≡ NoExpression → ReadAs (Stops 6 0) index index (scanRule bytes p index)
-              rule-no-expression h = stopped (read-on ∙ rule-unread bytes p a _ _ _ _ (sym h ∙ read-as-typed))
+  module _ (n : ℕ) (long : p .at + 4 ≤ length bytes) (size : n ≡ ofBytes (take 2 (drop (p .at + 2) bytes))) where
+    pub forward-cut : length bytes < p .at + 4 + n → ReadAs (Stops 2 0) index index (scanForward bytes p index)
+    unfolding scanForward demand
+    forward-cut h = stopped (rw (le-leb _ _ early, le-leb _ _ long, ← size, lt-leb _ _ h))
 
-              module _ (t result number : ℕ) (typed : formed ≡ Expression t) (result-is : result ≡ resultAt bytes a) (number-is : number ≡ baseCode (baseOf result) + 1) where
-                result-number : number ≡ baseCode (baseOf (resultAt bytes a)) + 1
-                result-number = rw (← result-is) number-is
+    module _ (k : ℕ) (whole : p .at + 4 + n ≤ length bytes) (kind : k ≡ getD bytes (p .at + 1) 0) where
+      pub forward-kind : 15 < k → ReadAs (Stops 4 0) index index (scanForward bytes p index)
+      unfolding scanForward demand
+      forward-kind h = stopped (rw (le-leb _ _ early, le-leb _ _ long, ← size, le-leb _ _ whole, ← kind, lt-leb _ _ h))
 
-                pub rule-type : (t ≡ number → ⊥) → ReadAs (Stops 7 0) index index (scanRule bytes p index)
-                rule-type h = stopped (read-on ∙ rule-ill-typed bytes p a _ t _ (sym typed ∙ read-as-typed) λ e. h (e ∙ sym result-number))
-
-                pub rule-goes-on : t ≡ number → ReadAs (GoesOn record { at = p .at + 5 + n; part = 3; attributes = p .attributes; nodes = p .nodes }) (set index place (p .at + 1)) index (scanRule bytes p index)
-                rule-goes-on h = went-on (read-on ∙ rule-typed bytes p a _ t _ (sym typed ∙ read-as-typed) (h ∙ result-number))
+      pub forward-piece : {place : ℕ} {r : Read} {after : List ℕ} → k ≤ 15 → place ≡ forwardPlace k
+          → ReadAs r after index (scanPiece bytes p index place (p .at + 1) false (baseOf 0) (baseOf 3)) → ReadAs r after index (scanForward bytes p index)
+      unfolding scanForward demand baseOf
+      forward-piece few here read = rw (le-leb _ _ early, le-leb _ _ long, ← size, le-leb _ _ whole, ← kind, le-leb _ _ few, ← here) read
 
 -- ---- The end
 
@@ -280,16 +318,21 @@ module _ (bytes : List ℕ) (p : Progress) (index : List ℕ) where
     unfolding commandOf scanAt
     command-rule e = read-as rule-command (ap commandOf e)
 
+    pub command-forward : getD bytes (p .at) 0 ≡ 0x46 → ReadAs r after index (scanForward bytes p index) → ReadAs r after index (scanCommand bytes p index)
+    unfolding commandOf scanAt
+    command-forward e = read-as forward-command (ap commandOf e)
+
     pub command-end : getD bytes (p .at) 0 ≡ 0x5A → ReadAs r after index (scanEnd bytes p) → ReadAs r after index (scanCommand bytes p index)
     unfolding commandOf scanAt
     command-end e = read-as end-command (ap commandOf e)
 
-  -- That the byte is none of the five is had as a `match` on it hands it to its last arm.
+  -- That the byte is none of the six is had as a `match` on it hands it to its last arm.
   pub command-other : p .at < length bytes
-      → ((((Unit {0} × (getD bytes (p .at) 0 ≡ 0x41 → ⊥)) × (getD bytes (p .at) 0 ≡ 0x4E → ⊥)) × (getD bytes (p .at) 0 ≡ 0x56 → ⊥)) × (getD bytes (p .at) 0 ≡ 0x52 → ⊥)) × (getD bytes (p .at) 0 ≡ 0x5A → ⊥)
+      → (((((Unit {0} × (getD bytes (p .at) 0 ≡ 0x41 → ⊥)) × (getD bytes (p .at) 0 ≡ 0x4E → ⊥)) × (getD bytes (p .at) 0 ≡ 0x56 → ⊥)) × (getD bytes (p .at) 0 ≡ 0x52 → ⊥))
+      × (getD bytes (p .at) 0 ≡ 0x46 → ⊥)) × (getD bytes (p .at) 0 ≡ 0x5A → ⊥)
       → ReadAs (Stops 2 0) index index (scanCommand bytes p index)
   unfolding commandOf scanAt
   command-other inside rest =
       let none : commandOf (getD bytes (p .at) 0) ≡ no-command =
-      rw (ne-eqb _ 0x41 (rest .0 .0 .0 .0 .1), ne-eqb _ 0x4E (rest .0 .0 .0 .1), ne-eqb _ 0x56 (rest .0 .0 .1), ne-eqb _ 0x52 (rest .0 .1), ne-eqb _ 0x5A (rest .1)) in
+      rw (ne-eqb _ 0x41 (rest .0 .0 .0 .0 .0 .1), ne-eqb _ 0x4E (rest .0 .0 .0 .0 .1), ne-eqb _ 0x56 (rest .0 .0 .0 .1), ne-eqb _ 0x52 (rest .0 .0 .1), ne-eqb _ 0x46 (rest .0 .1), ne-eqb _ 0x5A (rest .1)) in
       read-as _ _ inside no-command none (stopped refl)

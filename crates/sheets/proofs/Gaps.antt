@@ -1,5 +1,5 @@
 -- The pass for missing pairs: of a node the lowest attribute that it lacks, and of all nodes the first gap (Gaps.antt of crate saiga).
-use mathlib.Core.Bool.{Bool, true, false, not, _||_}
+use mathlib.Core.Bool.{Bool, true, false, not, _||_, or-true, or-false}
 use mathlib.Core.List.{List}
 use mathlib.Core.Option.{Option, none, some}
 use mathlib.Core.Path.{_≡_, refl, sym, _∙_}
@@ -14,7 +14,7 @@ use Rattle.sheets.specs.declared.Progress.{Progress}
 use Rattle.sheets.specs.declared.Gap.{Gap}
 use Rattle.sheets.specs.declared.Gap.the-variants.{At, Nowhere}
 use Rattle.sheets.specs.declared.SheetCheck.the-variants.{Refused, Accepted}
-use Rattle.sheets.specs.Scan.{figurePlace, rulePlace, pairIndexed, isIndexed, missingIn, Lacks, counted, scanned, Declared, scanOf, gapOf}
+use Rattle.sheets.specs.Scan.{figurePlace, rulePlace, forwardPlace, pairIndexed, isIndexed, missingIn, Lacks, counted, scanned, Declared, scanOf, gapOf}
 use Rattle.values.specs.Layout.{kindAt}
 
 -- ---- A pair
@@ -33,14 +33,26 @@ pair-told index n k a figure rule x y at-figure is-x at-rule is-y = rw (← at-f
 -- ---- A node
 
 module _ (bytes index : List ℕ) (attributes limit n : ℕ) where
-  -- The node has the attributes below a. k is its kind.
+  -- The node has the attributes below a. k is its kind, which has no forward.
   pub record HasBelow (k a : ℕ) : Type 0 where
     pub kind : k ≡ kindAt bytes attributes n
+    pub no-forward : getD index (forwardPlace k) 0 ≡ 0
     pub within : a ≤ limit
     pub lower : (b : ℕ) → b < a → isIndexed bytes index attributes n b ≡ true
 
-  pub node-start : (k : ℕ) → k ≡ kindAt bytes attributes n → HasBelow k 0
-  node-start k kind = record { kind = kind; within = omega arith; lower = λ b p. absurd (omega arith) }
+  module _ (k place number : ℕ) (kind : k ≡ kindAt bytes attributes n) (at-forward : place ≡ forwardPlace k) (is : number ≡ getD index place 0) where
+    -- a forward is for every attribute
+    pub node-forwards : (number ≡ 0 → ⊥) → Lacks (isIndexed bytes index attributes n) limit limit
+    unfolding isIndexed
+    node-forwards has =
+        record {
+          within = omega arith;
+          undefined = λ p. absurd (omega arith);
+          lower = λ b p. rw (← kind, ← at-forward, ← is, ne-eqb number 0 has, or-true);
+        }
+
+    pub node-start : number ≡ 0 → HasBelow k 0
+    node-start lacks = record { kind = kind; no-forward = rw (← at-forward, ← is) lacks; within = omega arith; lower = λ b p. absurd (omega arith) }
 
   module _ (k a : ℕ) (h : HasBelow k a) where
     pub node-has-all : limit ≤ a → Lacks (isIndexed bytes index attributes n) limit limit
@@ -50,7 +62,7 @@ module _ (bytes index : List ℕ) (attributes limit n : ℕ) where
       -- by its kind
       pair-is : isIndexed bytes index attributes n a ≡ b
       unfolding isIndexed
-      pair-is = rw (← h .kind) (sym test)
+      pair-is = rw (← h .kind, h .no-forward, ← test, or-false)
 
       pub node-lacks : not b ≡ true → Lacks (isIndexed bytes index attributes n) limit a
       node-lacks f = record { within = h .within; undefined = λ p. pair-is ∙ not-true b f; lower = h .lower }
@@ -58,6 +70,7 @@ module _ (bytes index : List ℕ) (attributes limit n : ℕ) where
       pub node-has : not b ≡ false → HasBelow k (a + 1)
       node-has f = record {
         kind = h .kind;
+        no-forward = h .no-forward;
         within = omega arith;
         lower = λ c p. one-more (λ c. isIndexed bytes index attributes n c ≡ true) a (h .lower) (pair-is ∙ not-false b f) c (omega arith);
       }

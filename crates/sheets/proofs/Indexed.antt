@@ -11,8 +11,8 @@ use lib.ListN.{length, drop, getD, set, length-set}
 use lib.Seq.{getD-drop, getD-set-same, getD-set-other}
 use borrow.Author.Tests.{eqb-true, eqb-false, eq-eqb, ne-eqb}
 use Rattle.saiga.specs.Types.{attributeAt}
-use Rattle.saiga.specs.Sheet.{Sheet, nodeCount, attributeCount, figureFor, ruleFor, ruled, figured, definition}
-use Rattle.sheets.specs.Scan.{figurePlace, rulesAt, rulePlace, attributesPlace, nodesPlace, figureAt, pieceAt, indexed, counted, FigureFits, RuleFits, Described, Indexed}
+use Rattle.saiga.specs.Sheet.{Sheet, nodeCount, attributeCount, Forward, Rule, figureFor, ruleFor, forwardFor, forwarded, ruled, figured, definition}
+use Rattle.sheets.specs.Scan.{figurePlace, piecesAt, rulePlace, forwardPlace, attributesPlace, nodesPlace, figureAt, pieceAt, indexed, counted, FigureFits, PieceFits, Described, Indexed}
 use Rattle.values.proofs.Declared.{past, attributeIn, attribute-at}
 use Rattle.values.specs.Layout.{kindAt, attributesIn, kindsIn}
 
@@ -83,12 +83,13 @@ module _ (bytes : List ℕ) (s : Sheet) (index : List ℕ) (h : Described bytes 
 
   pub definition-by-index : (n a : ℕ) → n < nodeCount s → a < attributeCount s → definition s n a
       ≡ figured (indexed (getD index (figurePlace n a) 0) (figureAt bytes a))
-      (ruled (indexed (getD index (rulePlace (kindAt bytes (attributeCount s) n) a) 0) (pieceAt bytes)))
+      (ruled (indexed (getD index (rulePlace (kindAt bytes (attributeCount s) n) a) 0) (pieceAt bytes))
+      (forwarded (indexed (getD index (forwardPlace (kindAt bytes (attributeCount s) n)) 0) (pieceAt bytes))))
   unfolding definition
   definition-by-index n a p q =
-      rw (h .figures n a p q, h .rules _ a (h .kinds-bound n p) q, kind-by-index n p)
+      rw (h .figures n a p q, h .rules _ a (h .kinds-bound n p) q, h .forwards _ (h .kinds-bound n p), kind-by-index n p)
 
--- ---- One more figure, one more rule
+-- ---- One more figure
 
 module _ (bytes : List ℕ) (s : Sheet) (index : List ℕ) (h : Described bytes s index) (a at : ℕ) (q : a < attributeCount s) where
   pub figure-indexed : (n : ℕ) → n < nodeCount s → FigureFits bytes (nodeCount s) a at
@@ -98,6 +99,7 @@ module _ (bytes : List ℕ) (s : Sheet) (index : List ℕ) (h : Described bytes 
         kinds = s .kinds;
         figures = record { node = n; attribute = a; value = figureAt bytes a at } ∷ s .figures;
         rules = s .rules;
+        forwards = s .forwards;
       }
       (set index (figurePlace n a) (at + 1))
   unfolding figureFor
@@ -114,8 +116,9 @@ module _ (bytes : List ℕ) (s : Sheet) (index : List ℕ) (h : Described bytes 
     figures = λ m b p′ q′. rw (test m b q′) (stored index (figurePlace n a) (figurePlace m b) at inside _ _ (figureAt bytes b) (λ e. rw (same m b q′ e)) (h .figures m b p′ q′));
     figure-fits = λ m b c p′ q′. stored-fits index (figurePlace n a) (figurePlace m b) at inside (FigureFits bytes (nodeCount s) b) c (λ e. rw (same m b q′ e) at fits)
         (h .figure-fits m b c p′ q′);
-    rules = λ k b p′ q′. rw (other k b) (h .rules k b p′ q′);
-    rule-fits = λ k b c p′ q′. rw (other k b) (h .rule-fits k b c p′ q′);
+    rules = λ k b p′ q′. rw (other (rulePlace k b) (omega arith)) (h .rules k b p′ q′);
+    forwards = λ k p′. rw (other (forwardPlace k) (omega arith)) (h .forwards k p′);
+    piece-fits = λ place c low high. rw (other place low) (h .piece-fits place c low high);
   }
     where
       inside : figurePlace n a < length index
@@ -127,43 +130,80 @@ module _ (bytes : List ℕ) (s : Sheet) (index : List ℕ) (h : Described bytes 
       test : (m b : ℕ) → b < attributeCount s → (eqb n m && eqb a b) ≡ eqb (figurePlace n a) (figurePlace m b)
       test m b q′ = same-place 0 n m a b (figurePlace n a) (figurePlace m b) (omega arith) (omega arith) (omega arith) (omega arith)
 
-      other : (k b : ℕ) → getD (set index (figurePlace n a) (at + 1)) (rulePlace k b) 0 ≡ getD index (rulePlace k b) 0
-      other k b = getD-set-other index (figurePlace n a) (rulePlace k b) (at + 1) 0 (omega arith)
+      other : (place : ℕ) → piecesAt ≤ place → getD (set index (figurePlace n a) (at + 1)) place 0 ≡ getD index place 0
+      other place low = getD-set-other index (figurePlace n a) place (at + 1) 0 (omega arith)
 
-  pub rule-indexed : (k : ℕ) → k ≤ 15 → RuleFits bytes at
+-- ---- One more rule, one more forward
+
+module _ (bytes : List ℕ) (s : Sheet) (index : List ℕ) (h : Described bytes s index) (at : ℕ) (fits : PieceFits bytes at) where
+  -- a piece, for its place in the index
+  module _ (place : ℕ) (low : piecesAt ≤ place) (high : place < attributesPlace) where
+    inside : place < length index
+    inside = omega (arith, h .size)
+
+    piece-indexed : (rules : List Rule) (forwards : List Forward)
+        → ((k a : ℕ) → k ≤ 15 → a < attributeCount s → ruleFor rules k a ≡ indexed (getD (set index place (at + 1)) (rulePlace k a) 0) (pieceAt bytes))
+        → ((k : ℕ) → k ≤ 15 → forwardFor forwards k ≡ indexed (getD (set index place (at + 1)) (forwardPlace k) 0) (pieceAt bytes))
+        → Described bytes record { attributes = s .attributes; kinds = s .kinds; figures = s .figures; rules = rules; forwards = forwards } (set index place (at + 1))
+    piece-indexed rules forwards rules-are forwards-are = record {
+      size = length-set index place (at + 1) ∙ h .size;
+      short = h .short;
+      attributes-are = h .attributes-are;
+      kinds-are = h .kinds-are;
+      room = h .room;
+      attributes-bound = h .attributes-bound;
+      nodes-bound = h .nodes-bound;
+      types-bound = h .types-bound;
+      kinds-bound = h .kinds-bound;
+      figures = λ n b p q. rw (other n b p q) (h .figures n b p q);
+      figure-fits = λ n b c p q. rw (other n b p q) (h .figure-fits n b c p q);
+      rules = rules-are;
+      forwards = forwards-are;
+      piece-fits = λ there c low′ high′. stored-fits index place there at inside (PieceFits bytes) c (λ e. fits) (h .piece-fits there c low′ high′);
+    }
+      where
+        other : (n b : ℕ) → n < nodeCount s → b < attributeCount s → getD (set index place (at + 1)) (figurePlace n b) 0 ≡ getD index (figurePlace n b) 0
+        other n b p q = getD-set-other index place (figurePlace n b) (at + 1) 0 (omega (arith, h .nodes-bound, h .attributes-bound))
+
+  pub rule-indexed : (k a : ℕ) → k ≤ 15 → a < attributeCount s
       → Described bytes
       record {
         attributes = s .attributes;
         kinds = s .kinds;
         figures = s .figures;
         rules = record { kind = k; attribute = a; piece = pieceAt bytes at } ∷ s .rules;
+        forwards = s .forwards;
       }
       (set index (rulePlace k a) (at + 1))
   unfolding ruleFor
-  rule-indexed k p fits = record {
-    size = length-set index (rulePlace k a) (at + 1) ∙ h .size;
-    short = h .short;
-    attributes-are = h .attributes-are;
-    kinds-are = h .kinds-are;
-    room = h .room;
-    attributes-bound = h .attributes-bound;
-    nodes-bound = h .nodes-bound;
-    types-bound = h .types-bound;
-    kinds-bound = h .kinds-bound;
-    figures = λ n b p′ q′. rw (other n b p′ q′) (h .figures n b p′ q′);
-    figure-fits = λ n b c p′ q′. rw (other n b p′ q′) (h .figure-fits n b c p′ q′);
-    rules = λ m b p′ q′. rw (test m b q′) (stored index (rulePlace k a) (rulePlace m b) at inside _ _ (pieceAt bytes) (λ e. refl) (h .rules m b p′ q′));
-    rule-fits = λ m b c p′ q′. stored-fits index (rulePlace k a) (rulePlace m b) at inside (RuleFits bytes) c (λ e. fits) (h .rule-fits m b c p′ q′);
-  }
+  rule-indexed k a p q =
+      piece-indexed (rulePlace k a) (omega arith) (omega (arith, h .attributes-bound)) _ _
+      (λ m b p′ q′. rw (same-place piecesAt k m a b (rulePlace k a) (rulePlace m b) (omega (arith, h .attributes-bound)) (omega (arith, h .attributes-bound)) (omega arith) (omega arith))
+      (stored index (rulePlace k a) (rulePlace m b) at (omega (arith, h .attributes-bound, h .size)) _ _ (pieceAt bytes) (λ e. refl) (h .rules m b p′ q′)))
+      (λ m p′. rw (getD-set-other index (rulePlace k a) (forwardPlace m) (at + 1) 0 (omega (arith, h .attributes-bound))) (h .forwards m p′))
+
+  pub forward-indexed : (k : ℕ) → k ≤ 15
+      → Described bytes
+      record {
+        attributes = s .attributes;
+        kinds = s .kinds;
+        figures = s .figures;
+        rules = s .rules;
+        forwards = record { kind = k; piece = pieceAt bytes at } ∷ s .forwards;
+      }
+      (set index (forwardPlace k) (at + 1))
+  unfolding forwardFor
+  forward-indexed k p =
+      piece-indexed (forwardPlace k) (omega arith) (omega arith) _ _
+      (λ m b p′ q′. rw (getD-set-other index (forwardPlace k) (rulePlace m b) (at + 1) 0 (omega (arith, h .attributes-bound))) (h .rules m b p′ q′))
+      (λ m p′. rw (same-kind m) (stored index (forwardPlace k) (forwardPlace m) at (omega (arith, h .size)) _ _ (pieceAt bytes) (λ e. refl) (h .forwards m p′)))
     where
-      inside : rulePlace k a < length index
-      inside = omega arith
-
-      test : (m b : ℕ) → b < attributeCount s → (eqb k m && eqb a b) ≡ eqb (rulePlace k a) (rulePlace m b)
-      test m b q′ = same-place rulesAt k m a b (rulePlace k a) (rulePlace m b) (omega arith) (omega arith) (omega arith) (omega arith)
-
-      other : (n b : ℕ) → n < nodeCount s → b < attributeCount s → getD (set index (rulePlace k a) (at + 1)) (figurePlace n b) 0 ≡ getD index (figurePlace n b) 0
-      other n b p′ q′ = getD-set-other index (rulePlace k a) (figurePlace n b) (at + 1) 0 (omega arith)
+      same-kind : (m : ℕ) → eqb k m ≡ eqb (forwardPlace k) (forwardPlace m)
+      same-kind m = go (eqb k m) refl
+        where
+          go : (b : Bool) → eqb k m ≡ b → b ≡ eqb (forwardPlace k) (forwardPlace m)
+          go true e = sym (eq-eqb (forwardPlace k) (forwardPlace m) (omega (arith, eqb-true)))
+          go false e = sym (ne-eqb (forwardPlace k) (forwardPlace m) λ same. eqb-false k m e (omega arith))
 
 -- ---- The counts
 
@@ -193,7 +233,8 @@ module _ (bytes : List ℕ) (s : Sheet) (index : List ℕ) (h : Described bytes 
       figures = λ n a p q. rw (other (figurePlace n a) (omega arith)) (h .figures n a p q);
       figure-fits = λ n a at p q. rw (other (figurePlace n a) (omega arith)) (h .figure-fits n a at p q);
       rules = λ k a p q. rw (other (rulePlace k a) (omega arith)) (h .rules k a p q);
-      rule-fits = λ k a at p q. rw (other (rulePlace k a) (omega arith)) (h .rule-fits k a at p q);
+      forwards = λ k p. rw (other (forwardPlace k) (omega arith)) (h .forwards k p);
+      piece-fits = λ place at low high. rw (other place high) (h .piece-fits place at low high);
     };
     attributes-in = getD-set-other first nodesPlace attributesPlace (nodeCount s) 0 (omega arith) ∙ getD-set-same index attributesPlace (attributeCount s) 0 (omega (arith, h .size));
     nodes-in = getD-set-same first nodesPlace (nodeCount s) 0 (omega (arith, h .size, first-size));

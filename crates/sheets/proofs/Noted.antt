@@ -1,4 +1,4 @@
--- The rules of a sheet stay noted from command to command.
+-- The rules and the forwards of a sheet stay noted from command to command.
 use mathlib.Core.Bool.{Bool, true, false, cond, and-eq-true-iff}
 use mathlib.Core.List.{List}
 use mathlib.Core.Option.{Option, none, some}
@@ -21,17 +21,17 @@ use Rattle.sheets.specs.declared.Read.{Read}
 use Rattle.sheets.specs.declared.Read.the-variants.{Stops, Ends, GoesOn}
 use Rattle.sheets.specs.declared.SheetCheck.{SheetCheck}
 use Rattle.sheets.specs.declared.SheetCheck.the-variants.{Refused, Accepted}
-use Rattle.sheets.specs.Scan.{figurePlace, rulesAt, rulePlaces, rulePlace, attributesPlace, nodesPlace, indexSize, pieceAt, Scanned, stops_at-offset_, ends, goes-on, demand, scanAttribute, scanNode, scanFigure, scanEnd, Reading, ReadAs, scanned, scanOf}
-use Rattle.sheets.specs.Notes.{RuleNoted, NotedTo, NotesOn, ChecksNotes}
+use Rattle.sheets.specs.Scan.{figurePlace, piecesAt, piecePlaces, attributesPlace, nodesPlace, indexSize, pieceAt, Scanned, stops_at-offset_, ends, goes-on, demand, scanAttribute, scanNode, scanFigure, scanEnd, Reading, PieceAsked, ReadAs, scanned, scanOf}
+use Rattle.sheets.specs.Notes.{PieceNoted, NotedTo, NotesOn, ChecksNotes}
 use Rattle.sheets.proofs.Indexed.{stored-fits}
 
--- ---- Commands that are no rules
+-- ---- Commands without a piece
 
--- the pass goes on, and the rules' part of the index is as before
+-- the pass goes on, and the part of the index for pieces is as before
 abbrev Steady : Progress → List ℕ → Scanned → Type 0
 Steady p index (stops number at-offset offset) = Unit {0}
 Steady p index ends = Unit {0}
-Steady p index (goes-on p′ after) = (p .at ≤ p′ .at) × ((place : ℕ) → rulesAt ≤ place → getD after place 0 ≡ getD index place 0)
+Steady p index (goes-on p′ after) = (p .at ≤ p′ .at) × ((place : ℕ) → piecesAt ≤ place → getD after place 0 ≡ getD index place 0)
 
 module _ (p : Progress) (index : List ℕ) where
   demand-steady : (b : Bool) (number : ℕ) (t : Scanned) → (b ≡ true → Steady p index t) → Steady p index (demand b number t)
@@ -76,7 +76,7 @@ module _ (p : Progress) (index : List ℕ) where
     steady-notes (GoesOn p′) after t s h =
         let (on, same) = rw (← (s .read)) at h in
         λ noted. record {
-          rules = record { rule = λ place at low high e. noted .rules .rule place at low high (rw (same place low) at e) };
+          pieces = record { piece = λ place at low high e. noted .pieces .piece place at low high (rw (same place low) at e) };
           stands = λ place at low high e. let before = noted .stands place at low high (rw (same place low) at e) in omega arith;
         }
 
@@ -95,54 +95,53 @@ module _ (p : Progress) (index : List ℕ) where
     pub stop-notes : (number offset : ℕ) → NotesOn bytes p index notes index notes (Stops number offset)
     stop-notes number offset = tt
 
--- ---- A rule
+-- ---- A command with a piece
 
--- A rule is read, whose bytes start at `at + 5`; those before it stay.
-module _ (bytes index notes notes′ : List ℕ) (p : Progress) (n place : ℕ) where
+-- A piece is read, whose bytes start at `before + 3`; those before it stay.
+module _ (bytes index notes notes′ : List ℕ) (from before n place : ℕ) where
   abbrev piece : List ℕ
-  piece = take (p .at + 5 + n - (p .at + 5)) (drop (p .at + 5) bytes)
+  piece = take (before + 3 + n - (before + 3)) (drop (before + 3) bytes)
 
-  piece-is : n ≡ ofBytes (take 2 (drop (p .at + 3) bytes)) → piece ≡ pieceAt bytes (p .at)
+  piece-is : n ≡ ofBytes (take 2 (drop (before + 1) bytes)) → piece ≡ pieceAt bytes before
   unfolding pieceAt
-  piece-is size = let e : p .at + 5 + n - (p .at + 5) ≡ n = omega arith in rw (e, size)
+  piece-is size = let e : before + 3 + n - (before + 3) ≡ n = omega arith in rw (e, size)
 
-  -- a rule before it
-  rule-stays : (at : ℕ) → Before (p .at + 5) notes notes′ → at + 5 + length (pieceAt bytes at) ≤ p .at → RuleNoted bytes notes at → RuleNoted bytes notes′ at
-  rule-stays at before stands noted =
-      noted-same noted λ i h. getD-drop (at + 5) notes′ i 0 ∙ before (at + 5 + i) (omega arith) ∙ sym (getD-drop (at + 5) notes i 0)
+  -- a piece before it
+  piece-stays : (at : ℕ) → Before (before + 3) notes notes′ → at + 3 + length (pieceAt bytes at) ≤ before → PieceNoted bytes notes at → PieceNoted bytes notes′ at
+  piece-stays at older stands noted =
+      noted-same noted λ i h. getD-drop (at + 3) notes′ i 0 ∙ older (at + 3 + i) (omega arith) ∙ sym (getD-drop (at + 3) notes i 0)
 
-  pub rule-notes : {k a t : ℕ} {formed : Formed} → n ≡ ofBytes (take 2 (drop (p .at + 3) bytes)) → length index ≡ indexSize
-      → k ≡ getD bytes (p .at + 1) 0 → a ≡ getD bytes (p .at + 2) 0 → place ≡ rulePlace k a → k ≤ 15 → a < p .attributes → Reading bytes p
-      → NotesWhole piece (p .at + 5) notes notes′ formed → formed ≡ Expression t
-      → NotesOn bytes p index notes (set index place (p .at + 1)) notes′ (GoesOn record { at = p .at + 5 + n; part = 3; attributes = p .attributes; nodes = p .nodes })
-  rule-notes size index-size kind attribute place-is few declared known read is noted =
+  pub piece-notes : {t : ℕ} {formed : Formed} → n ≡ ofBytes (take 2 (drop (before + 1) bytes)) → length index ≡ indexSize → PieceAsked bytes from place before
+      → NotesWhole piece (before + 3) notes notes′ formed → formed ≡ Expression t
+      → NotedTo bytes index notes from → NotedTo bytes (set index place (before + 1)) notes′ (before + 3 + n)
+  piece-notes size index-size asked read is noted =
       let here = piece-is size in
-      let fits : place < length index = omega (arith, known .attributes-bound) in
-      let own : RuleNoted bytes notes′ (p .at) = rw (is, here) at (read .noted) in
-      let cut : length piece ≤ n = omega (arith, length-take (p .at + 5 + n - (p .at + 5)) (drop (p .at + 5) bytes)) in
-      let short : length (pieceAt bytes (p .at)) ≤ n = rw here at cut in
+      let fits : place < length index = omega (arith, asked .high) in
+      let own : PieceNoted bytes notes′ before = rw (is, here) at (read .noted) in
+      let cut : length piece ≤ n = omega (arith, length-take (before + 3 + n - (before + 3)) (drop (before + 3) bytes)) in
+      let short : length (pieceAt bytes before) ≤ n = rw here at cut in
       record {
-        rules = record {
-          rule = λ other at low high. stored-fits index place other (p .at) fits (RuleNoted bytes notes′) at (λ e. own)
-              (λ e. rule-stays at (read .before) (noted .stands other at low high e) (noted .rules .rule other at low high e));
+        pieces = record {
+          piece = λ other at low high. stored-fits index place other before fits (PieceNoted bytes notes′) at (λ e. own)
+              (λ e. let stands = noted .stands other at low high e in piece-stays at (read .before) (omega (arith, asked .behind)) (noted .pieces .piece other at low high e));
         };
-        stands = λ other at low high. stored-fits index place other (p .at) fits (λ at. at + 5 + length (pieceAt bytes at) ≤ p .at + 5 + n) at (λ e. omega arith)
-            (λ e. let before = noted .stands other at low high e in omega arith);
+        stands = λ other at low high. stored-fits index place other before fits (λ at. at + 3 + length (pieceAt bytes at) ≤ before + 3 + n) at (λ e. omega arith)
+            (λ e. let stands = noted .stands other at low high e in omega (arith, asked .behind));
       }
 
 -- ---- The pass
 
--- no rule yet
-pub first-notes : (bytes first cleared notes : List ℕ) → length first ≡ indexSize → cleared ≡ emptied first rulesAt rulePlaces → NotedTo bytes cleared notes 0
+-- no piece yet
+pub first-notes : (bytes first cleared notes : List ℕ) → length first ≡ indexSize → cleared ≡ emptied first piecesAt piecePlaces → NotedTo bytes cleared notes 0
 first-notes bytes first cleared notes size e =
-    let none-there : (place at : ℕ) → rulesAt ≤ place → place < attributesPlace → getD cleared place 0 ≡ suc at → ⊥ =
-    λ place at low high h. let empty : getD cleared place 0 ≡ 0 = rw e (emptied-inside first rulesAt rulePlaces place low (omega arith) (omega arith)) in omega arith in
+    let none-there : (place at : ℕ) → piecesAt ≤ place → place < attributesPlace → getD cleared place 0 ≡ suc at → ⊥ =
+    λ place at low high h. let empty : getD cleared place 0 ≡ 0 = rw e (emptied-inside first piecesAt piecePlaces place low (omega arith) (omega arith)) in omega arith in
     record {
-      rules = record { rule = λ place at low high h. absurd (none-there place at low high h) };
+      pieces = record { piece = λ place at low high h. absurd (none-there place at low high h) };
       stands = λ place at low high h. absurd (none-there place at low high h);
     }
 
--- the pass is over, and the numbers of attributes and nodes are put behind the rules' part of the index
+-- the pass is over, and the numbers of attributes and nodes are put behind the part of the index for pieces
 pub last-notes : (bytes notes : List ℕ) (p : Progress) (after last : List ℕ) (check : SheetCheck) (gap : Option ℕ) → scanOf check last ≡ scanned p after gap
     → NotedTo bytes after notes (p .at) → ChecksNotes bytes check last notes
 unfolding scanned
@@ -150,17 +149,17 @@ last-notes bytes notes p after last check none e noted =
     let is : check ≡ Accepted (p .attributes) (p .nodes) = ap (λ s. s .check) e in
     let index-is = ap (λ s. s .index) e in
     rw is (record {
-      rule = λ place at low high h. noted .rules .rule place at low high
+      piece = λ place at low high h. noted .pieces .piece place at low high
           (sym (getD-set-other (set after attributesPlace (p .attributes)) nodesPlace place (p .nodes) 0 (omega arith) ∙ getD-set-other after attributesPlace place (p .attributes) 0 (omega arith)) ∙ rw index-is at h);
     })
 last-notes bytes notes p after last check (some place) e noted = let is : check ≡ Refused 8 place = ap (λ s. s .check) e in rw is tt
 
--- the rules so far are noted, and the notes have their length
+-- the pieces so far are noted, and the notes have their length
 pub record NotedPass (bytes first index notes : List ℕ) (p : Progress) : Type 0 where
   pub noted : NotedTo bytes index notes (p .at)
   pub size : length notes ≡ length first
 
-pub pass-start : (bytes first cleared notes : List ℕ) (p : Progress) → length first ≡ indexSize → cleared ≡ emptied first rulesAt rulePlaces → p .at ≡ 0
+pub pass-start : (bytes first cleared notes : List ℕ) (p : Progress) → length first ≡ indexSize → cleared ≡ emptied first piecesAt piecePlaces → p .at ≡ 0
     → NotedPass bytes notes cleared notes p
 pass-start bytes first cleared notes p size e here = record { noted = rw here (first-notes bytes first cleared notes size e); size = refl }
 

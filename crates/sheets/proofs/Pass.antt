@@ -5,17 +5,18 @@ use mathlib.Core.Path.{_≡_, refl, sym, ap, _∙_}
 use Prim.Native.Nat.{ℕ, zero, suc, _+_, _-_, _≤_, _<_}
 use native.Mathlib.Omega.{arith}
 use lib.Dec.{leb, ltb, eqb}
-use lib.ListN.{length, getD}
+use lib.ListN.{length, take, drop, getD}
 use borrow.Author.Tests.{leb-true}
+use Rattle.saiga.specs.Values.{Base, ofBytes}
 use Rattle.saiga.specs.Expressions.{Whole, no-expression, expression}
-use Rattle.saiga.specs.Sheet.{Sheet, emptySheet, nodeCount, attributeCount, Read as SheetRead, Command, attribute-command, node-command, figure-command, rule-command, end-command, no-command, commandOf}
+use Rattle.saiga.specs.Sheet.{Sheet, emptySheet, nodeCount, attributeCount, Read as SheetRead, Command, attribute-command, node-command, figure-command, rule-command, forward-command, end-command, no-command, commandOf}
 use Rattle.values.specs.Cells.{emptied}
 use Rattle.sheets.specs.declared.Progress.{Progress}
 use Rattle.sheets.specs.declared.Read.{Read}
 use Rattle.sheets.specs.declared.Read.the-variants.{Stops, Ends, GoesOn}
 use Rattle.sheets.specs.declared.SheetCheck.{SheetCheck}
 use Rattle.sheets.specs.declared.SheetCheck.the-variants.{Refused}
-use Rattle.sheets.specs.Scan.{rulesAt, rulePlaces, indexSize, Scanned, stops_at-offset_, ends, goes-on, demand, scanAttribute, scanNode, scanFigure, demandRule, scanRule, scanEnd, scanAt, scanCommand, missingIn, Scan, scanned, scanFrom, start, Reading, ReadAs, Declared, scanOf}
+use Rattle.sheets.specs.Scan.{piecesAt, piecePlaces, indexSize, Scanned, stops_at-offset_, ends, goes-on, demand, scanAttribute, scanNode, scanFigure, demandPiece, scanPiece, scanRule, scanForward, scanEnd, scanAt, scanCommand, missingIn, Scan, scanned, scanFrom, start, Reading, ReadAs, Declared, scanOf}
 use Rattle.sheets.proofs.Indexed.{kind-by-index}
 use Rattle.sheets.proofs.Scan.{progress, SoFar, Agrees, stop, end, next, next-agrees, start-so-far}
 
@@ -33,10 +34,15 @@ module _ (bytes : List ℕ) (p : Progress) where
   demand-moves true number t h = h refl
   demand-moves false number t h = omega arith
 
-  demand-rule-moves : (a : ℕ) (w : Whole) (t : Scanned) → Moves bytes p t → Moves bytes p (demandRule bytes p a w t)
-  unfolding demandRule
-  demand-rule-moves a no-expression t h = omega arith
-  demand-rule-moves a (expression e) t h = demand-moves _ 7 t λ b. h
+  demand-piece-moves : (q t : Base) (w : Whole) (r : Scanned) → Moves bytes p r → Moves bytes p (demandPiece bytes p q t w r)
+  unfolding demandPiece
+  demand-piece-moves q t no-expression r h = omega arith
+  demand-piece-moves q t (expression e) r h = demand-moves _ 7 r λ b. h
+
+  piece-moves : (index : List ℕ) (place before : ℕ) (has-parameter : Bool) (q t : Base) → p .at < before → before + 3 + ofBytes (take 2 (drop (before + 1) bytes)) ≤ length bytes
+      → Moves bytes p (scanPiece bytes p index place before has-parameter q t)
+  unfolding scanPiece
+  piece-moves index place before has-parameter q t behind fits = demand-moves _ _ _ λ e. demand-piece-moves q t _ _ (omega arith, fits, omega arith)
 
   end-moves : (b : Bool) → Moves bytes p (cond b ends (stops 2 at-offset 1))
   end-moves true = tt
@@ -47,7 +53,7 @@ module _ (bytes : List ℕ) (p : Progress) where
   long a n e = leb-true n (length bytes) (and-eq-true-iff a (leb n (length bytes)) .0 e .1)
 
   command-moves : (index : List ℕ) (c : Command) → Moves bytes p (scanAt bytes p index c)
-  unfolding scanAt scanAttribute scanNode scanFigure scanRule scanEnd
+  unfolding scanAt scanAttribute scanNode scanFigure scanRule scanForward scanEnd
   command-moves index attribute-command =
       demand-moves _ _ _ λ e. demand-moves _ _ _ λ f. demand-moves _ _ _ λ g. (omega arith, long (leb (p .part) 0) _ e, omega arith)
   command-moves index node-command =
@@ -55,7 +61,15 @@ module _ (bytes : List ℕ) (p : Progress) where
   command-moves index figure-command =
       demand-moves _ _ _ λ e. demand-moves _ _ _ λ f. demand-moves _ _ _ λ g. (omega arith, long (leb (p .part) 2) _ e, omega arith)
   command-moves index rule-command =
-      demand-moves _ _ _ λ e. demand-moves _ _ _ λ f. demand-moves _ _ _ λ g. demand-rule-moves _ _ _ (omega arith, long (leb (p .part) 3 && leb (p .at + 5) (length bytes)) _ e, omega arith)
+      let length-at : p .at + 2 + 1 ≡ p .at + 3 = omega arith in
+      let piece-at : p .at + 2 + 3 ≡ p .at + 5 = omega arith in
+      demand-moves _ _ _ λ e. demand-moves _ _ _ λ f.
+      piece-moves index _ _ _ _ _ (omega arith) (rw (length-at, piece-at) (long (leb (p .part) 3 && leb (p .at + 5) (length bytes)) _ e))
+  command-moves index forward-command =
+      let length-at : p .at + 1 + 1 ≡ p .at + 2 = omega arith in
+      let piece-at : p .at + 1 + 3 ≡ p .at + 4 = omega arith in
+      demand-moves _ _ _ λ e. demand-moves _ _ _ λ f.
+      piece-moves index _ _ _ _ _ (omega arith) (rw (length-at, piece-at) (long (leb (p .part) 3 && leb (p .at + 4) (length bytes)) _ e))
   command-moves index end-command = end-moves (eqb (p .at + 1) (length bytes))
   command-moves index no-command = omega arith
 
@@ -80,7 +94,7 @@ pub record Reached (bytes first : List ℕ) (p : Progress) (index : List ℕ) : 
   pub enough : length bytes < p .at + fuel
   pub rest : scanFrom fuel bytes p index ≡ scanFrom (suc (length bytes)) bytes start first
 
-pub reached-start : (bytes first cleared : List ℕ) → length bytes ≤ 65536 → length first ≡ indexSize → cleared ≡ emptied first rulesAt rulePlaces
+pub reached-start : (bytes first cleared : List ℕ) → length bytes ≤ 65536 → length first ≡ indexSize → cleared ≡ emptied first piecesAt piecePlaces
     → Reached bytes cleared start cleared
 reached-start bytes first cleared short size e = record {
   sheet = emptySheet;
@@ -173,8 +187,8 @@ module _ (bytes first : List ℕ) (p : Progress) (index : List ℕ) (h : Reached
         let small : offset ≤ 1 = rw (← stops-as number offset told) at (next-moves bytes p index) in
         omega (arith, reached-reading .short, reached-reading .within)
 
-    pub pass-stops : (whole : List ℕ) (number offset : ℕ) → r ≡ Stops number offset → first ≡ emptied whole rulesAt rulePlaces
-        → scanOf (Refused number (p .at + offset)) after ≡ scanFrom (suc (length bytes)) bytes start (emptied whole rulesAt rulePlaces)
+    pub pass-stops : (whole : List ℕ) (number offset : ℕ) → r ≡ Stops number offset → first ≡ emptied whole piecesAt piecePlaces
+        → scanOf (Refused number (p .at + offset)) after ≡ scanFrom (suc (length bytes)) bytes start (emptied whole piecesAt piecePlaces)
     unfolding scanFrom
     pass-stops whole number offset told cleared =
         rw (kept-at-stop number offset told, ← cleared)
@@ -186,9 +200,9 @@ module _ (bytes first : List ℕ) (p : Progress) (index : List ℕ) (h : Reached
         rw (kept-at-end told)
         (left-over (scanned p index (missingIn bytes index (p .attributes) (p .nodes))) λ k same. rw (← ends-as told, scanFrom) at same)
 
-    pub pass-ends : (whole last : List ℕ) (check : SheetCheck) → r ≡ Ends → first ≡ emptied whole rulesAt rulePlaces
+    pub pass-ends : (whole last : List ℕ) (check : SheetCheck) → r ≡ Ends → first ≡ emptied whole piecesAt piecePlaces
         → scanOf check last ≡ scanned p after (missingIn bytes after (p .attributes) (p .nodes))
-        → scanOf check last ≡ scanFrom (suc (length bytes)) bytes start (emptied whole rulesAt rulePlaces)
+        → scanOf check last ≡ scanFrom (suc (length bytes)) bytes start (emptied whole piecesAt piecePlaces)
     pass-ends whole last check told cleared e = rw (← cleared) (e ∙ completed told)
 
     pub read-all : r ≡ Ends → ((n : ℕ) → n < p .nodes → Declared bytes after (p .attributes) n) × (Reading bytes p × (length after ≡ indexSize))

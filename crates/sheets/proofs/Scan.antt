@@ -12,21 +12,21 @@ use lib.Dec.{leb, ltb, eqb, eqb·suc-zero}
 use lib.ListN.{length, take, drop, getD, length-append, length-drop, drop-of-length-le, List·getD-append}
 use lib.Seq.{drop-cons, drop-drop, getD-drop, getD-append-seam, length-take-le}
 use borrow.Author.Tests.{leb-true, leb-false, ltb-true, ltb-false, eqb-true, eqb-false, le-leb, lt-leb}
-use Rattle.saiga.specs.Values.{ofBytes, isWord}
+use Rattle.saiga.specs.Values.{Base, ofBytes, isWord}
 use Rattle.saiga.specs.Expressions.{Expr, Scope, Whole, no-expression, expression, readWhole}
 use Rattle.saiga.specs.Types.{attributeAt}
 use Rattle.saiga.specs.Gaps.{firstGap}
-use Rattle.saiga.specs.Sheet.{Sheet, emptySheet, nodeCount, attributeCount, figureFor, ruleFor, ruleScope, ruled, figured, definition, isDefined, defines, Command, attribute-command, node-command, figure-command, rule-command, end-command, no-command, commandOf, Read, stops_at-offset_ as read-stops_at-offset_, ends as read-ends, goes-on as read-on, require, isNone, readAttribute, readNode, readFigure, requireRule, readRule, readEnd, readCommand, readNext, Checked, refused_at-place_, accepted, complete, readCommands, checkSheet}
+use Rattle.saiga.specs.Sheet.{Sheet, emptySheet, nodeCount, attributeCount, figureFor, ruleFor, forwardFor, ruleScope, forwardScope, forwarded, ruled, figured, definition, isDefined, defines, Command, attribute-command, node-command, figure-command, rule-command, forward-command, end-command, no-command, commandOf, Read, stops_at-offset_ as read-stops_at-offset_, ends as read-ends, goes-on as read-on, require, isNone, readAttribute, readNode, readFigure, requirePiece, readRule, readForward, readEnd, readCommand, readNext, Checked, refused_at-place_, accepted, complete, readCommands, checkSheet}
 use Rattle.saiga.proofs.Inference.{cond-passes}
 use Rattle.saiga.proofs.Gaps.{one-more, same-gap}
 use Rattle.sheets.specs.declared.Progress.{Progress}
 use Rattle.sheets.specs.declared.SheetCheck.{SheetCheck}
 use Rattle.sheets.specs.declared.SheetCheck.the-variants.{Refused, Accepted}
-use Rattle.sheets.specs.Scan.{figurePlace, rulesAt, rulePlaces, rulePlace, indexSize, figureAt, pieceAt, indexed, Scanned, stops_at-offset_, ends, goes-on, demand, scanAttribute, scanNode, scanFigure, demandRule, scanRule, scanEnd, scanAt, scanCommand, pairIndexed, isIndexed, missingIn, Scan, scanned, scanFrom, start, scanSheet, checkOf, Described, Indexed, scanOf, Checks}
+use Rattle.sheets.specs.Scan.{figurePlace, piecesAt, piecePlaces, rulePlace, forwardPlace, attributesPlace, indexSize, figureAt, pieceAt, indexed, Scanned, stops_at-offset_, ends, goes-on, demand, scanAttribute, scanNode, scanFigure, demandPiece, scanPiece, scanRule, scanForward, scanEnd, scanAt, scanCommand, pairIndexed, isIndexed, missingIn, Scan, scanned, scanFrom, start, scanSheet, checkOf, PieceFits, Described, Indexed, scanOf, Checks}
 use Rattle.values.specs.Cells.{emptied}
 use Rattle.values.specs.Layout.{resultAt, parameterAt, kindAt, attributesIn, kindsIn}
 use Rattle.values.proofs.Cells.{emptied-length, emptied-inside, emptied-outside}
-use Rattle.sheets.proofs.Indexed.{attributes-snoc, kinds-snoc, attribute-by-index, definition-by-index, figure-indexed, rule-indexed, counted-indexed}
+use Rattle.sheets.proofs.Indexed.{attributes-snoc, kinds-snoc, attribute-by-index, definition-by-index, figure-indexed, rule-indexed, forward-indexed, counted-indexed}
 
 -- ---- The pass for missing pairs
 
@@ -37,16 +37,20 @@ is-indexed (suc at) f = sym (eqb·suc-zero at)
 
 module _ (bytes : List ℕ) (s : Sheet) (index : List ℕ) (h : Described bytes s index) where
   defined-is : (n a : ℕ) → n < nodeCount s → a < attributeCount s → isDefined (definition s n a) ≡ isIndexed bytes index (attributeCount s) n a
-  unfolding pairIndexed isIndexed isDefined figured ruled indexed
+  unfolding pairIndexed isIndexed isDefined figured ruled forwarded indexed
   defined-is n a p q =
       rw (definition-by-index bytes s index h n a p q)
-      (go (getD index (figurePlace n a) 0) (getD index (rulePlace (kindAt bytes (attributeCount s) n) a) 0))
+      (go (getD index (figurePlace n a) 0) (getD index (rulePlace kind a) 0) (getD index (forwardPlace kind) 0))
     where
-      go : (x y : ℕ) → isDefined (figured (indexed x (figureAt bytes a)) (ruled (indexed y (pieceAt bytes)))) ≡ (not (eqb x 0) || not (eqb y 0))
-      go zero zero = refl
-      go zero (suc y) = rw eqb·suc-zero
-      go (suc x) zero = rw eqb·suc-zero
-      go (suc x) (suc y) = simp eqb·suc-zero
+      kind : ℕ
+      kind = kindAt bytes (attributeCount s) n
+
+      go : (x y z : ℕ) → isDefined (figured (indexed x (figureAt bytes a)) (ruled (indexed y (pieceAt bytes)) (forwarded (indexed z (pieceAt bytes)))))
+          ≡ ((not (eqb x 0) || not (eqb y 0)) || not (eqb z 0))
+      go zero zero zero = refl
+      go zero zero (suc z) = rw eqb·suc-zero
+      go zero (suc y) z = rw eqb·suc-zero
+      go (suc x) y z = rw eqb·suc-zero
 
   gap-is : firstGap (defines s) (nodeCount s) (attributeCount s) ≡ missingIn bytes index (attributeCount s) (nodeCount s)
   gap-is = same-gap (nodeCount s) (attributeCount s) (defines s) (isIndexed bytes index (attributeCount s)) defined-is
@@ -56,7 +60,7 @@ module _ (bytes : List ℕ) (s : Sheet) (index : List ℕ) (h : Described bytes 
 abbrev pub progress : Sheet → ℕ → ℕ → Progress
 progress s at part = record { at = at; part = part; attributes = attributeCount s; nodes = nodeCount s }
 
--- Attributes and nodes are declared where there is no figure and no rule yet, so each of those is checked on all that is declared.
+-- Attributes and nodes are declared where there is no figure, no rule and no forward yet, so each of those is checked on all that is declared.
 record Declaring (bytes : List ℕ) (s : Sheet) (at part : ℕ) (index : List ℕ) : Type 0 where
   size : length index ≡ indexSize
   short : length bytes ≤ 65536
@@ -71,15 +75,16 @@ record Declaring (bytes : List ℕ) (s : Sheet) (at part : ℕ) (index : List �
   no-nodes : part ≤ 0 → s .kinds ≡ []
   no-figures : s .figures ≡ []
   no-rules : s .rules ≡ []
+  no-forwards : s .forwards ≡ []
   clear-rows : (n : ℕ) → n < nodeCount s → (a : ℕ) → a < 32 → getD index (figurePlace n a) 0 ≡ 0
-  clear-rules : (k a : ℕ) → k ≤ 15 → a < 32 → getD index (rulePlace k a) 0 ≡ 0
+  clear-pieces : (place : ℕ) → piecesAt ≤ place → place < attributesPlace → getD index place 0 ≡ 0
 
 pub record SoFar (bytes : List ℕ) (s : Sheet) (at part : ℕ) (index : List ℕ) : Type 0 where
   pub known : Described bytes s index
   declaring : part ≤ 1 → Declaring bytes s at part index
 
 declared : {bytes : List ℕ} {s : Sheet} {at part : ℕ} {index : List ℕ} → Declaring bytes s at part index → SoFar bytes s at part index
-unfolding figureFor ruleFor indexed
+unfolding figureFor ruleFor forwardFor indexed
 declared d = record {
   known = record {
     size = d .size;
@@ -93,8 +98,9 @@ declared d = record {
     kinds-bound = d .kinds-bound;
     figures = λ n a p q. rw (d .no-figures, d .clear-rows n p a (omega arith));
     figure-fits = λ n a b p q e. absurd (omega (arith, d .clear-rows n p a (omega arith)));
-    rules = λ k a p q. rw (d .no-rules, d .clear-rules k a p (omega arith));
-    rule-fits = λ k a b p q e. absurd (omega (arith, d .clear-rules k a p (omega arith)));
+    rules = λ k a p q. rw (d .no-rules, d .clear-pieces (rulePlace k a) (omega arith) (omega (arith, d .attributes-bound)));
+    forwards = λ k p. rw (d .no-forwards, d .clear-pieces (forwardPlace k) (omega arith) (omega arith));
+    piece-fits = λ place b low high e. absurd (omega (arith, d .clear-pieces place low high));
   };
   declaring = λ p. d;
 }
@@ -136,18 +142,19 @@ module _ (bytes : List ℕ) (at : ℕ) where
       go true e = sym (le-leb (at + suc n) (length bytes) (omega (arith, leb-true, length-drop (at + 1) bytes)))
       go false e = sym (lt-leb (at + suc n) (length bytes) (omega (arith, leb-false, length-drop (at + 1) bytes)))
 
-  -- the test on the room that a rule takes: the check reads the piece's length before it knows that this is there
-  rule-long : at < length bytes → (b : Bool) (n : ℕ) → (b && leb (4 + n) (length (drop (at + 1) bytes)) && leb 4 (length (drop (at + 1) bytes)))
-      ≡ (b && leb (at + 5) (length bytes) && leb (at + 5 + n) (length bytes))
-  rule-long inside false n = refl
-  rule-long inside true n =
-      let e : at + suc (4 + n) ≡ at + 5 + n = omega arith in
-      rw (long inside 4, long inside (4 + n), e) (and-comm (leb (at + 5 + n) (length bytes)) (leb (at + 5) (length bytes)))
+  -- the test on the room that a command with a piece takes, of which `w` bytes follow its first before the piece: the check reads the piece's length before it
+  -- knows that this is there
+  piece-long : at < length bytes → (b : Bool) (w n : ℕ) → (b && leb (w + n) (length (drop (at + 1) bytes)) && leb w (length (drop (at + 1) bytes)))
+      ≡ (b && leb (at + suc w) (length bytes) && leb (at + suc w + n) (length bytes))
+  piece-long inside false w n = refl
+  piece-long inside true w n =
+      let e : at + suc (w + n) ≡ at + suc w + n = omega arith in
+      rw (long inside w, long inside (w + n), e) (and-comm (leb (at + suc w + n) (length bytes)) (leb (at + suc w) (length bytes)))
 
-  rule-fits : at < length bytes → (b : Bool) (n : ℕ)
-      → (b && leb (4 + n) (length (drop (at + 1) bytes)) && leb 4 (length (drop (at + 1) bytes))) ≡ true → at + 5 + n ≤ length bytes
-  rule-fits inside b n e =
-      leb-true (at + 5 + n) (length bytes) (and-eq-true-iff (b && leb (at + 5) (length bytes)) _ .0 (sym (rule-long inside b n) ∙ e) .1)
+  piece-room : at < length bytes → (b : Bool) (w n : ℕ)
+      → (b && leb (w + n) (length (drop (at + 1) bytes)) && leb w (length (drop (at + 1) bytes))) ≡ true → at + suc w + n ≤ length bytes
+  piece-room inside b w n e =
+      leb-true (at + suc w + n) (length bytes) (and-eq-true-iff (b && leb (at + suc w) (length bytes)) _ .0 (sym (piece-long inside b w n) ∙ e) .1)
 
 -- ---- Each command
 
@@ -186,8 +193,9 @@ module _ (bytes : List ℕ) (s : Sheet) (at part : ℕ) (index : List ℕ) (h : 
         no-nodes = λ p. no-kinds;
         no-figures = d .no-figures;
         no-rules = d .no-rules;
+        no-forwards = d .no-forwards;
         clear-rows = d .clear-rows;
-        clear-rules = d .clear-rules;
+        clear-pieces = d .clear-pieces;
       }))
 
   node-agrees : Agrees bytes at (readNode s part (drop (at + 1) bytes)) (scanNode bytes (progress s at part) index)
@@ -213,9 +221,10 @@ module _ (bytes : List ℕ) (s : Sheet) (at part : ℕ) (index : List ℕ) (h : 
         no-nodes = λ p. absurd (omega arith);
         no-figures = d .no-figures;
         no-rules = d .no-rules;
+        no-forwards = d .no-forwards;
         clear-rows = rw length-snoc (one-more _ (nodeCount s) (λ n p a q. emptied-outside index (figurePlace (nodeCount s) 0) 32 (figurePlace n a) (omega arith) ∙ d .clear-rows n p a q)
             (λ a q. emptied-inside index (figurePlace (nodeCount s) 0) 32 (figurePlace (nodeCount s) a) (omega arith) (omega arith) (omega (arith, tests))));
-        clear-rules = λ k a p q. emptied-outside index (figurePlace (nodeCount s) 0) 32 (rulePlace k a) (omega (arith, tests)) ∙ d .clear-rules k a p q;
+        clear-pieces = λ place low high. emptied-outside index (figurePlace (nodeCount s) 0) 32 place (omega (arith, tests)) ∙ d .clear-pieces place low high;
       }))
 
   figure-agrees : Agrees bytes at (readFigure s part (drop (at + 1) bytes)) (scanFigure bytes (progress s at part) index)
@@ -243,30 +252,57 @@ module _ (bytes : List ℕ) (s : Sheet) (at part : ℕ) (index : List ℕ) (h : 
           let t = and-eq-true-iff (ltb n (nodeCount s)) (ltb a (attributeCount s)) .0 e in
           (ltb-true n (nodeCount s) (t .0), ltb-true a (attributeCount s) (t .1))
 
-  require-rule-agrees : (a : ℕ) → a < attributeCount s → (w : Whole) (r : Read) (t : Scanned) → ((e : Expr) → w ≡ expression e → Agrees bytes at r t)
-      → Agrees bytes at (requireRule s a w r) (demandRule bytes (progress s at part) a w t)
-  unfolding requireRule demandRule
-  require-rule-agrees a q no-expression r t f = stop
-  require-rule-agrees a q (expression e) r t f =
-      require-agrees bytes at _ _ (rw (attribute-by-index bytes s index (h .known) a q, ← (h .known .attributes-are))) 7 r t λ typed. f e refl
+  require-piece-agrees : (q t : Base) (w : Whole) (r : Read) (u : Scanned) → ((e : Expr) → w ≡ expression e → Agrees bytes at r u)
+      → Agrees bytes at (requirePiece s q t w r) (demandPiece bytes (progress s at part) q t w u)
+  unfolding requirePiece demandPiece
+  require-piece-agrees q t no-expression r u f = stop
+  require-piece-agrees q t (expression e) r u f = require-agrees bytes at _ _ (rw (← (h .known .attributes-are))) 7 r u λ typed. f e refl
+
+  -- a piece that was read is short
+  piece-fit : (before n : ℕ) (sc : Scope) (e : Expr) → n ≡ ofBytes (take 2 (drop (before + 1) bytes)) → before + 3 + n ≤ length bytes
+      → readWhole sc (take n (drop (before + 3) bytes)) ≡ expression e → PieceFits bytes before
+  piece-fit before n sc e is fits read =
+      let short : n ≤ 256 = omega (arith, read-short sc _ e read, length-take-le n (drop (before + 3) bytes) (omega (arith, length-drop (before + 3) bytes))) in
+      (rw is at fits, rw is at short)
 
   rule-agrees : Agrees bytes at (readRule s part (drop (at + 1) bytes)) (scanRule bytes (progress s at part) index)
-  unfolding readRule scanRule ruleScope pieceAt
+  unfolding readRule scanRule scanPiece ruleScope pieceAt
   rule-agrees =
       let k = getD bytes (at + 1) 0 in
       let a = getD bytes (at + 2) 0 in
       let n = ofBytes (take 2 (drop (at + 3) bytes)) in
-      rw (operand bytes at 0, operand bytes at 1, operands bytes at 2, operands bytes at 4)
+      let length-at : at + 2 + 1 ≡ at + 3 = omega arith in
+      let piece-at : at + 2 + 3 ≡ at + 5 = omega arith in
+      rw (operand bytes at 0, operand bytes at 1, operands bytes at 2, operands bytes at 4, length-at, piece-at)
       (require-agrees bytes at (leb part 3 && leb (4 + n) (length (drop (at + 1) bytes)) && leb 4 (length (drop (at + 1) bytes))) _
-      (rule-long bytes at inside (leb part 3) n) 2 _ _ λ test.
-      let fits = rule-fits bytes at inside (leb part 3) n test in
+      (piece-long bytes at inside (leb part 3) 4 n) 2 _ _ λ test.
+      let fits = piece-room bytes at inside (leb part 3) 4 n test in
       require-both-agrees bytes at (leb k 15) (ltb a (attributeCount s)) _ _ refl (λ kind. refl) 4 _ _ λ kind declared.
       require-agrees bytes at (isNone (ruleFor (s .rules) k a)) _
       (rw (h .known .rules k a (omega (arith, tests)) (omega (arith, tests))) (is-indexed _ _)) 5 _ _ λ new.
-      require-rule-agrees a (omega (arith, tests)) _ _ _ λ e read.
+      rw (attribute-by-index bytes s index (h .known) a (omega (arith, tests)))
+      (require-piece-agrees _ _ _ _ _ λ e read.
       next (rw add-assoc) record {
-        known = rule-indexed bytes s index (h .known) a at (omega (arith, tests)) k (omega (arith, tests))
-            (fits, omega (arith, read-short _ _ e read, length-take-le n (drop (at + 5) bytes) (omega (arith, length-drop (at + 5) bytes))));
+        known = rw (piece-at, length-at) at (rule-indexed bytes s index (h .known) (at + 2) (piece-fit (at + 2) n (ruleScope s) e (rw length-at) (rw piece-at fits) (rw piece-at read)) k a (omega (arith, tests)) (omega (arith, tests)));
+        declaring = λ p. absurd (omega arith);
+      }))
+
+  forward-agrees : Agrees bytes at (readForward s part (drop (at + 1) bytes)) (scanForward bytes (progress s at part) index)
+  unfolding readForward scanForward scanPiece forwardScope pieceAt
+  forward-agrees =
+      let k = getD bytes (at + 1) 0 in
+      let n = ofBytes (take 2 (drop (at + 2) bytes)) in
+      let length-at : at + 1 + 1 ≡ at + 2 = omega arith in
+      let piece-at : at + 1 + 3 ≡ at + 4 = omega arith in
+      rw (operand bytes at 0, operands bytes at 1, operands bytes at 3, length-at, piece-at)
+      (require-agrees bytes at (leb part 3 && leb (3 + n) (length (drop (at + 1) bytes)) && leb 3 (length (drop (at + 1) bytes))) _
+      (piece-long bytes at inside (leb part 3) 3 n) 2 _ _ λ test.
+      let fits = piece-room bytes at inside (leb part 3) 3 n test in
+      require-agrees bytes at (leb k 15) _ refl 4 _ _ λ kind.
+      require-agrees bytes at (isNone (forwardFor (s .forwards) k)) _ (rw (h .known .forwards k (omega (arith, tests))) (is-indexed _ _)) 5 _ _ λ new.
+      require-piece-agrees _ _ _ _ _ λ e read.
+      next (rw add-assoc) record {
+        known = rw (piece-at, length-at) at (forward-indexed bytes s index (h .known) (at + 1) (piece-fit (at + 1) n (forwardScope s) e (rw length-at) (rw piece-at fits) (rw piece-at read)) k (omega (arith, tests)));
         declaring = λ p. absurd (omega arith);
       })
 
@@ -284,6 +320,7 @@ module _ (bytes : List ℕ) (s : Sheet) (at part : ℕ) (index : List ℕ) (h : 
   command-agrees node-command = node-agrees
   command-agrees figure-command = figure-agrees
   command-agrees rule-command = rule-agrees
+  command-agrees forward-command = forward-agrees
   command-agrees end-command = end-agrees
   command-agrees no-command = stop
 
@@ -326,10 +363,10 @@ commands-agree bytes (suc k) s at part index h = go (commands-agree bytes k) _ _
         (finish (missingIn bytes index (attributeCount s) (nodeCount s)))
     go ih r t e f (next same so-far) = rw (e, readCommands, f, scanFrom, drop-drop, same) (ih _ _ _ _ so-far)
 
-pub start-so-far : (bytes index : List ℕ) → length bytes ≤ 65536 → length index ≡ indexSize → SoFar bytes emptySheet 0 0 (emptied index rulesAt rulePlaces)
+pub start-so-far : (bytes index : List ℕ) → length bytes ≤ 65536 → length index ≡ indexSize → SoFar bytes emptySheet 0 0 (emptied index piecesAt piecePlaces)
 unfolding attributesIn kindsIn
 start-so-far bytes index short size = declared record {
-  size = emptied-length index rulesAt rulePlaces ∙ size;
+  size = emptied-length index piecesAt piecePlaces ∙ size;
   short = short;
   attributes-are = refl;
   kinds-are = refl;
@@ -342,8 +379,9 @@ start-so-far bytes index short size = declared record {
   no-nodes = λ p. refl;
   no-figures = refl;
   no-rules = refl;
+  no-forwards = refl;
   clear-rows = λ n p. absurd (omega arith);
-  clear-rules = λ k a p q. emptied-inside index rulesAt rulePlaces (rulePlace k a) (omega arith) (omega arith) (omega arith);
+  clear-pieces = λ place low high. emptied-inside index piecesAt piecePlaces place low (omega arith) (omega arith);
 }
 
 sheet-agrees : (bytes index : List ℕ) → length index ≡ indexSize → Outcome bytes (checkSheet bytes) (scanSheet bytes index)
@@ -352,10 +390,10 @@ sheet-agrees bytes index size = go (leb (length bytes) 65536) refl
   where
     go : (b : Bool) → leb (length bytes) 65536 ≡ b
         → Outcome bytes (cond b (readCommands (suc (length bytes)) emptySheet 0 0 bytes) (refused 1 at-place 0))
-        (cond b (scanFrom (suc (length bytes)) bytes start (emptied index rulesAt rulePlaces)) record { check = Refused 1 0; index = index })
+        (cond b (scanFrom (suc (length bytes)) bytes start (emptied index piecesAt piecePlaces)) record { check = Refused 1 0; index = index })
     go false e = refl
     go true e =
-        commands-agree bytes (suc (length bytes)) emptySheet 0 0 (emptied index rulesAt rulePlaces)
+        commands-agree bytes (suc (length bytes)) emptySheet 0 0 (emptied index piecesAt piecePlaces)
         (start-so-far bytes index (leb-true (length bytes) 65536 e) size)
 
 pub scan-checks : (bytes index : List ℕ) → length index ≡ indexSize → scanSheet bytes index .check ≡ checkOf (checkSheet bytes)
@@ -382,12 +420,12 @@ module _ (bytes index : List ℕ) where
       let e = long-refused bytes h in
       record { size = size; checked = rw e; indexes = λ s f. absurd (let z : _≡_ {A = ℕ} 0 1 = cc in omega arith) }
 
-  pass-is : length bytes ≤ 65536 → scanSheet bytes index ≡ scanFrom (suc (length bytes)) bytes start (emptied index rulesAt rulePlaces)
+  pass-is : length bytes ≤ 65536 → scanSheet bytes index ≡ scanFrom (suc (length bytes)) bytes start (emptied index piecesAt piecePlaces)
   unfolding scanSheet
   pass-is h = rw (le-leb _ _ h)
 
   pub short-checks : (r : SheetCheck) (after : List ℕ) → length index ≡ indexSize → length after ≡ indexSize → length bytes ≤ 65536
-      → scanOf r after ≡ scanFrom (suc (length bytes)) bytes start (emptied index rulesAt rulePlaces) → Checks bytes r after
+      → scanOf r after ≡ scanFrom (suc (length bytes)) bytes start (emptied index piecesAt piecePlaces) → Checks bytes r after
   short-checks r after size left h e =
       let same = e ∙ sym (pass-is h) in
       record {

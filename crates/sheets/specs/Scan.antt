@@ -1,5 +1,5 @@
 -- The check of a sheet as the code makes it: one pass that keeps, beside the offset reached, the counts of attributes and nodes and an
--- index of where each figure and each rule stands. Scan.antt of proofs/ shows that it is checkSheet.
+-- index of where each figure, each rule and each forward stands. Scan.antt of proofs/ shows that it is checkSheet.
 use mathlib.Core.Bool.{Bool, true, false, not, _&&_, _||_, cond}
 use mathlib.Core.Option.{Option, none, some}
 use mathlib.Core.List.{List}
@@ -8,12 +8,12 @@ use Prim.Native.Nat.{ℕ, zero, suc, _+_, _*_, _≤_, _<_}
 use lib.Dec.{leb, ltb, eqb}
 use lib.ListN.{length, take, drop, getD, set}
 use Rattle.saiga.specs.Limits.{sheetLimit, attributeLimit, nodeLimit, lastKind, expressionLimit}
-use Rattle.saiga.specs.Values.{baseOf, base, ofBytes, isWord, ofWord}
+use Rattle.saiga.specs.Values.{Base, unitT, nodeT, baseOf, base, ofBytes, isWord, ofWord}
 use Rattle.saiga.specs.declared.Value.{Value}
 use Rattle.saiga.specs.Expressions.{Whole, no-expression, expression, readWhole}
 use Rattle.saiga.specs.Types.{hasType}
 use Rattle.saiga.specs.Gaps.{firstGap}
-use Rattle.saiga.specs.Sheet.{Sheet, nodeCount, attributeCount, figureFor, ruleFor, attribute-part, node-part, figure-part, rule-part, Command, attribute-command, node-command, figure-command, rule-command, end-command, no-command, commandOf, Checked, refused_at-place_, accepted, checkSheet}
+use Rattle.saiga.specs.Sheet.{Sheet, nodeCount, attributeCount, figureFor, ruleFor, forwardFor, attribute-part, node-part, figure-part, rule-part, Command, attribute-command, node-command, figure-command, rule-command, forward-command, end-command, no-command, commandOf, Checked, refused_at-place_, accepted, checkSheet}
 use Rattle.sheets.specs.declared.Progress.{Progress}
 use Rattle.sheets.specs.declared.Read.{Read}
 use Rattle.sheets.specs.declared.Read.the-variants.{Stops, Ends, GoesOn}
@@ -21,6 +21,8 @@ use Rattle.sheets.specs.declared.Gap.{Gap}
 use Rattle.sheets.specs.declared.Gap.the-variants.{At, Nowhere}
 use Rattle.sheets.specs.declared.lookup.FoundFigure.{FoundFigure}
 use Rattle.sheets.specs.declared.lookup.FoundFigure.the-variants.{Of, NoFigure}
+use Rattle.sheets.specs.declared.lookup.FoundPiece.{FoundPiece}
+use Rattle.sheets.specs.declared.lookup.FoundPiece.the-variants.{OfRule, OfForward}
 use Rattle.sheets.specs.declared.SheetCheck.{SheetCheck}
 use Rattle.sheets.specs.declared.SheetCheck.the-variants.{Refused, Accepted}
 use Rattle.values.specs.Cells.{emptied}
@@ -28,35 +30,39 @@ use Rattle.values.specs.Layout.{resultAt, parameterAt, kindAt, attributesIn, ki
 
 -- ---- What stands where
 
--- The index has a number for each pair of a node and an attribute and for each pair of a kind and an attribute: the offset of the
--- command, and one; 0 where there is none. Behind these an accepted sheet's has the numbers of its attributes and nodes.
+-- The index has a number for each pair of a node and an attribute: the offset of the figure's command, and one. It has a number for each pair of a kind and
+-- an attribute, and for each kind: the offset of the length in the rule's and in the forward's command, which is a piece's length in both. It is 0 where
+-- there is none. Behind these an accepted sheet's has the numbers of its attributes and nodes.
 abbrev pub figurePlace : ℕ → ℕ → ℕ
 figurePlace n a = n * attributeLimit + a
 
-abbrev pub rulesAt : ℕ
-rulesAt = 32768
+abbrev pub piecesAt : ℕ
+piecesAt = 32768
 
-abbrev pub rulePlaces : ℕ
-rulePlaces = 512
+abbrev pub piecePlaces : ℕ
+piecePlaces = 528
 
 abbrev pub rulePlace : ℕ → ℕ → ℕ
-rulePlace k a = rulesAt + k * attributeLimit + a
+rulePlace k a = piecesAt + k * attributeLimit + a
+
+abbrev pub forwardPlace : ℕ → ℕ
+forwardPlace k = 33280 + k
 
 abbrev pub attributesPlace : ℕ
-attributesPlace = 33280
+attributesPlace = 33296
 
 abbrev pub nodesPlace : ℕ
-nodesPlace = 33281
+nodesPlace = 33297
 
 abbrev pub indexSize : ℕ
-indexSize = 33282
+indexSize = 33298
 
--- the figure of the command at an offset, by the result type of its attribute, and the piece of the rule at an offset
+-- the figure of the command at an offset, by the result type of its attribute, and the piece whose length stands behind an offset
 unfoldable pub figureAt : List ℕ → ℕ → ℕ → Value
 figureAt bytes a at = ofWord (baseOf (resultAt bytes a)) (ofBytes (take 4 (drop (at + 4) bytes)))
 
 unfoldable pub pieceAt : List ℕ → ℕ → List ℕ
-pieceAt bytes at = take (ofBytes (take 2 (drop (at + 3) bytes))) (drop (at + 5) bytes)
+pieceAt bytes at = take (ofBytes (take 2 (drop (at + 1) bytes))) (drop (at + 3) bytes)
 
 unfoldable pub indexed : {A : Type 0} → ℕ → (ℕ → A) → Option A
 indexed zero f = none
@@ -103,10 +109,17 @@ scanFigure bytes p index =
     (demand (eqb (getD index (figurePlace n a) 0) 0) 5
     (goes-on record { at = at + 8; part = figure-part; attributes = p .attributes; nodes = p .nodes } (set index (figurePlace n a) (at + 1)))))
 
-unfoldable pub demandRule : List ℕ → Progress → ℕ → Whole → Scanned → Scanned
-demandRule bytes p a no-expression r = stops 6 at-offset 0
-demandRule bytes p a (expression e) r =
-    demand (hasType (attributesIn bytes (p .attributes)) (baseOf (parameterAt bytes a)) (base (baseOf (resultAt bytes a))) e) 7 r
+-- The piece behind the offset `before`, for a place in the index. `q` is the type of 0x31, if it may be used, and `t` the piece's type.
+unfoldable pub demandPiece : List ℕ → Progress → Base → Base → Whole → Scanned → Scanned
+demandPiece bytes p q t no-expression r = stops 6 at-offset 0
+demandPiece bytes p q t (expression e) r = demand (hasType (attributesIn bytes (p .attributes)) q (base t) e) 7 r
+
+unfoldable pub scanPiece : List ℕ → Progress → List ℕ → ℕ → ℕ → Bool → Base → Base → Scanned
+scanPiece bytes p index place before has-parameter q t =
+    let n = ofBytes (take 2 (drop (before + 1) bytes)) in
+    demand (eqb (getD index place 0) 0) 5
+    (demandPiece bytes p q t (readWhole record { nodes = p .nodes; attributes = p .attributes; has-this = true; has-parameter = has-parameter } (pieceAt bytes before))
+    (goes-on record { at = before + 3 + n; part = rule-part; attributes = p .attributes; nodes = p .nodes } (set index place (before + 1))))
 
 unfoldable pub scanRule : List ℕ → Progress → List ℕ → Scanned
 scanRule bytes p index =
@@ -116,9 +129,16 @@ scanRule bytes p index =
     let n = ofBytes (take 2 (drop (at + 3) bytes)) in
     demand (leb (p .part) rule-part && leb (at + 5) (length bytes) && leb (at + 5 + n) (length bytes)) 2
     (demand (leb k lastKind && ltb a (p .attributes)) 4
-    (demand (eqb (getD index (rulePlace k a) 0) 0) 5
-    (demandRule bytes p a (readWhole record { nodes = p .nodes; attributes = p .attributes; has-this = true; has-parameter = true } (pieceAt bytes at))
-    (goes-on record { at = at + 5 + n; part = rule-part; attributes = p .attributes; nodes = p .nodes } (set index (rulePlace k a) (at + 1))))))
+    (scanPiece bytes p index (rulePlace k a) (at + 2) true (baseOf (parameterAt bytes a)) (baseOf (resultAt bytes a))))
+
+unfoldable pub scanForward : List ℕ → Progress → List ℕ → Scanned
+scanForward bytes p index =
+    let at = p .at in
+    let k = getD bytes (at + 1) 0 in
+    let n = ofBytes (take 2 (drop (at + 2) bytes)) in
+    demand (leb (p .part) rule-part && leb (at + 4) (length bytes) && leb (at + 4 + n) (length bytes)) 2
+    (demand (leb k lastKind) 4
+    (scanPiece bytes p index (forwardPlace k) (at + 1) false unitT nodeT))
 
 unfoldable pub scanEnd : List ℕ → Progress → Scanned
 scanEnd bytes p = cond (eqb (p .at + 1) (length bytes)) ends (stops 2 at-offset 1)
@@ -128,6 +148,7 @@ scanAt bytes p index attribute-command = scanAttribute bytes p index
 scanAt bytes p index node-command = scanNode bytes p index
 scanAt bytes p index figure-command = scanFigure bytes p index
 scanAt bytes p index rule-command = scanRule bytes p index
+scanAt bytes p index forward-command = scanForward bytes p index
 scanAt bytes p index end-command = scanEnd bytes p
 scanAt bytes p index no-command = stops 2 at-offset 0
 
@@ -141,8 +162,11 @@ scanCommand bytes p index =
 unfoldable pub pairIndexed : List ℕ → ℕ → ℕ → ℕ → Bool
 pairIndexed index n k a = not (eqb (getD index (figurePlace n a) 0) 0) || not (eqb (getD index (rulePlace k a) 0) 0)
 
+-- or a forward
 unfoldable pub isIndexed : List ℕ → List ℕ → ℕ → ℕ → ℕ → Bool
-isIndexed bytes index attributes n a = pairIndexed index n (kindAt bytes attributes n) a
+isIndexed bytes index attributes n a =
+    let k = kindAt bytes attributes n in
+    pairIndexed index n k a || not (eqb (getD index (forwardPlace k) 0) 0)
 
 -- the first gap, as the index has it
 abbrev pub missingIn : List ℕ → List ℕ → ℕ → ℕ → Option ℕ
@@ -180,11 +204,11 @@ scanFrom (suc k) bytes p index =
 abbrev pub start : Progress
 start = record { at = 0; part = attribute-part; attributes = 0; nodes = 0 }
 
--- The rules' part of the index is emptied first.
+-- The part of the index for rules and forwards is emptied first.
 unfoldable pub scanSheet : List ℕ → List ℕ → Scan
 scanSheet bytes index =
     cond (leb (length bytes) sheetLimit)
-    (scanFrom (suc (length bytes)) bytes start (emptied index rulesAt rulePlaces))
+    (scanFrom (suc (length bytes)) bytes start (emptied index piecesAt piecePlaces))
     record { check = Refused 1 0; index = index }
 
 -- ---- What it comes to
@@ -194,18 +218,18 @@ unfoldable pub checkOf : Checked Sheet → SheetCheck
 checkOf (refused number at-place place) = Refused number place
 checkOf (accepted s) = Accepted (attributeCount s) (nodeCount s)
 
--- that the command at an offset stands within the sheet's bytes and holds a word of its attribute's type, or a piece that may be an
--- expression
+-- that the command at an offset stands within the sheet's bytes and holds a word of its attribute's type; that the piece behind an offset does and may be
+-- an expression
 abbrev pub FigureFits : List ℕ → ℕ → ℕ → ℕ → Type 0
 FigureFits bytes nodes a at =
     (at + 8 ≤ length bytes) × (isWord nodes (baseOf (resultAt bytes a)) (ofBytes (take 4 (drop (at + 4) bytes))) ≡ true)
 
-abbrev pub RuleFits : List ℕ → ℕ → Type 0
-RuleFits bytes at =
-    (at + 5 + ofBytes (take 2 (drop (at + 3) bytes)) ≤ length bytes) × (ofBytes (take 2 (drop (at + 3) bytes)) ≤ expressionLimit)
+abbrev pub PieceFits : List ℕ → ℕ → Type 0
+PieceFits bytes at =
+    (at + 3 + ofBytes (take 2 (drop (at + 1) bytes)) ≤ length bytes) × (ofBytes (take 2 (drop (at + 1) bytes)) ≤ expressionLimit)
 
--- The bytes and the index have all that a sheet says: its attributes and kinds stand where they are looked for, and each figure and each
--- rule is the one at its number in the index, whose bytes are within the sheet's.
+-- The bytes and the index have all that a sheet says: its attributes and kinds stand where they are looked for, and each figure, each rule and each
+-- forward is the one at its number in the index, whose bytes are within the sheet's.
 pub record Described (bytes : List ℕ) (s : Sheet) (index : List ℕ) : Type 0 where
   pub size : length index ≡ indexSize
   pub short : length bytes ≤ sheetLimit
@@ -221,7 +245,8 @@ pub record Described (bytes : List ℕ) (s : Sheet) (index : List ℕ) : Type 0 
   pub figure-fits : (n a at : ℕ) → n < nodeCount s → a < attributeCount s → getD index (figurePlace n a) 0 ≡ suc at
       → FigureFits bytes (nodeCount s) a at
   pub rules : (k a : ℕ) → k ≤ lastKind → a < attributeCount s → ruleFor (s .rules) k a ≡ indexed (getD index (rulePlace k a) 0) (pieceAt bytes)
-  pub rule-fits : (k a at : ℕ) → k ≤ lastKind → a < attributeCount s → getD index (rulePlace k a) 0 ≡ suc at → RuleFits bytes at
+  pub forwards : (k : ℕ) → k ≤ lastKind → forwardFor (s .forwards) k ≡ indexed (getD index (forwardPlace k) 0) (pieceAt bytes)
+  pub piece-fits : (place at : ℕ) → piecesAt ≤ place → place < attributesPlace → getD index place 0 ≡ suc at → PieceFits bytes at
 
 -- The index of an accepted sheet has its counts too.
 pub record Indexed (bytes : List ℕ) (s : Sheet) (index : List ℕ) : Type 0 where
@@ -239,6 +264,13 @@ pub record Reading (bytes : List ℕ) (p : Progress) : Type 0 where
   pub room : 3 * p .attributes + 2 * p .nodes ≤ length bytes
   pub attributes-bound : p .attributes ≤ attributeLimit
   pub nodes-bound : p .nodes ≤ nodeLimit
+
+-- And where the piece behind `before` is read, of the command at `at`, for a place in the index: its length and the piece itself are there.
+pub record PieceAsked (bytes : List ℕ) (at place before : ℕ) : Type 0 where
+  pub low : piecesAt ≤ place
+  pub high : place < attributesPlace
+  pub behind : at < before
+  pub room : before + 3 + ofBytes (take 2 (drop (before + 1) bytes)) ≤ length bytes
 
 abbrev pub readOf : Read → List ℕ → Scanned
 readOf (Stops number offset) index = stops number at-offset offset
@@ -277,21 +309,30 @@ pub record Checks (bytes : List ℕ) (check : SheetCheck) (index : List ℕ) : T
   pub checked : check ≡ checkOf (checkSheet bytes)
   pub indexes : (s : Sheet) → checkSheet bytes ≡ accepted s → Indexed bytes s index
 
--- A declared node and a declared attribute of an indexed sheet, and those whose kind has a rule for the attribute.
+-- A declared node and a declared attribute of an indexed sheet.
 pub record IndexedPair (bytes index : List ℕ) (n a : ℕ) : Type 0 where
   pub sheet : Sheet
   pub known : Indexed bytes sheet index
   pub node : n < nodeCount sheet
   pub attribute : a < attributeCount sheet
 
--- the number that the index has for the rule of a node's kind and an attribute
+-- the numbers that the index has for the rule of a node's kind and an attribute, and for the kind's forward
 abbrev pub ruleNumber : List ℕ → List ℕ → ℕ → ℕ → ℕ
 ruleNumber bytes index n a = getD index (rulePlace (kindAt bytes (getD index attributesPlace 0) n) a) 0
 
-pub record IndexedRule (bytes index : List ℕ) (n a : ℕ) : Type 0 where
-  pub pair : IndexedPair bytes index n a
-  pub ruled : ruleNumber bytes index n a ≡ 0 → ⊥
+abbrev pub forwardNumber : List ℕ → List ℕ → ℕ → ℕ
+forwardNumber bytes index n = getD index (forwardPlace (kindAt bytes (getD index attributesPlace 0) n)) 0
 
 abbrev pub figureOf : FoundFigure → Option Value
 figureOf (Of v) = some v
 figureOf NoFigure = none
+
+-- what defines a pair without figure, by the two numbers
+abbrev pub pieceFor : ℕ → ℕ → FoundPiece
+pieceFor rule forward = cond (eqb rule 0) (OfForward forward) (OfRule rule)
+
+-- a length stands at an offset, and its piece behind it
+pub record PieceHere (bytes : List ℕ) (number : ℕ) : Type 0 where
+  pub starts : 1 ≤ number
+  pub short : length bytes ≤ sheetLimit
+  pub room : number + 2 + ofBytes (take 2 (drop number bytes)) ≤ length bytes

@@ -6,8 +6,8 @@ use expressions::Formed;
 use lookup::ATTRIBUTES_PLACE;
 use lookup::INDEX_SIZE;
 use lookup::NODES_PLACE;
-use lookup::RULE_PLACES;
-use lookup::RULES_AT;
+use lookup::PIECE_PLACES;
+use lookup::PIECES_AT;
 use saiga::limits::ATTRIBUTE_LIMIT;
 use saiga::limits::LAST_KIND;
 use saiga::limits::NODE_LIMIT;
@@ -17,9 +17,10 @@ ghost use mathlib.Core.List.{List};
 ghost use Prim.Native.Nat.{ℕ, suc, _+_, _-_, _≤_, _<_};
 ghost use lib.ListN.{length};
 ghost use Rattle.saiga.specs.Limits.{sheetLimit, attributeLimit, nodeLimit, lastKind};
+ghost use Rattle.saiga.specs.Values.{baseOf};
 ghost use Rattle.values.specs.Cells.{emptied};
 ghost use Rattle.sheets.specs.Notes.{NotesOn, ChecksNotes};
-ghost use Rattle.sheets.specs.Scan.{rulesAt, rulePlaces, indexSize, scanAttribute, scanNode, scanFigure, scanRule, scanEnd, scanCommand, pairIndexed, isIndexed, missingIn, Lacks, scanned, scanFrom, start, Reading, ReadAs, Declared, gapOf, scanOf, Checks};
+ghost use Rattle.sheets.specs.Scan.{piecesAt, piecePlaces, indexSize, scanAttribute, scanNode, scanFigure, scanPiece, scanRule, scanForward, scanEnd, scanCommand, pairIndexed, isIndexed, missingIn, Lacks, scanned, scanFrom, start, Reading, PieceAsked, ReadAs, Declared, gapOf, scanOf, Checks};
 
 // The last kind, as a byte of the sheet.
 const LAST_KIND_BYTE: u8 = LAST_KIND as u8;
@@ -32,6 +33,11 @@ const NODE_PART: u32 = 1;
 const FIGURE_PART: u32 = 2;
 
 const RULE_PART: u32 = 3;
+
+// The codes of two types: Unit, which stands for the type of a parameter that may not be used, and Node.
+const UNIT_CODE: u8 = 0;
+
+const NODE_CODE: u8 = 3;
 
 // What is known of a sheet part way through its check: the offset reached, the part of the sheet reached, and how many attributes
 // and nodes are declared.
@@ -160,41 +166,38 @@ fn read_figure(sheet: &[u8], index: &mut [u16], p: Progress) -> Read
     })
 }
 
-fn read_rule(sheet: &[u8], index: &mut [u16], notes: &mut [u8], p: Progress) -> Read
-    requires { ⌜ Reading (now sheet) p × (length (now index) ≡ indexSize) × (length (now sheet) ≤ length (now notes)) ⌝ }
-    ensures { λ r. ⌜ ReadAs r (now (index .exit)) (now (index .entry)) (scanRule (now (sheet .entry)) p (now (index .entry))) ⌝ }
+// The piece of a rule or a forward, whose length stands behind the offset `before`: stops 5, 6 and 7. `place` is for it in the index; 0x31 is
+// `allowed` or not, and of the type with the code `parameter`; `result` is the code of the piece's type.
+fn read_piece(
+    sheet: &[u8],
+    index: &mut [u16],
+    notes: &mut [u8],
+    p: Progress,
+    place: usize,
+    before: usize,
+    allowed: bool,
+    parameter: u8,
+    result: u8,
+) -> Read
+    requires { ⌜ Reading (now sheet) p × (length (now index) ≡ indexSize) × (length (now sheet) ≤ length (now notes)) × PieceAsked (now sheet) (p .at) place before ⌝ }
+    ensures { λ r. ⌜ ReadAs r (now (index .exit)) (now (index .entry))
+        (scanPiece (now (sheet .entry)) p (now (index .entry)) place before allowed (baseOf parameter) (baseOf result)) ⌝ }
     ensures { λ r. ⌜ NotesOn (now (sheet .entry)) p (now (index .entry)) (now (notes .entry)) (now (index .exit)) (now (notes .exit)) r ⌝ }
 {
-    let at = p.at;
     let attributes = p.attributes;
     let nodes = p.nodes;
-    if sheet.len() < at + 5 {
-        return Read::Stops(2, 0);
-    }
-    let start = at + 5;
-    let end = start + values::two(sheet, at + 3) as usize;
-    if sheet.len() < end {
-        return Read::Stops(2, 0);
-    }
-    let k = wide(sheet[at + 1]);
-    let a = wide(sheet[at + 2]);
-    if LAST_KIND < k {
-        return Read::Stops(4, 0);
-    }
-    if attributes <= a {
-        return Read::Stops(4, 0);
-    }
-    let place = lookup::rule_place(k, a);
     if index[place] != 0 {
         return Read::Stops(5, 0);
     }
+    let start = before + 3;
+    let end = start + values::two(sheet, before + 1) as usize;
     let formed = expressions::read_whole(
         sheet,
         attributes,
         nodes,
         true,
-        true,
-        values::parameter_at(sheet, a),
+        allowed,
+        parameter,
         &sheet[start..end],
         notes,
         start,
@@ -202,16 +205,82 @@ fn read_rule(sheet: &[u8], index: &mut [u16], notes: &mut [u8], p: Progress) -> 
     let Formed::Expression(t) = formed else {
         return Read::Stops(6, 0);
     };
-    if t != expressions::numbers::base_number(values::result_at(sheet, a)) {
+    if t != expressions::numbers::base_number(result) {
         return Read::Stops(7, 0);
     }
-    index[place] = (at + 1) as u16;
+    index[place] = (before + 1) as u16;
     Read::GoesOn(Progress {
         at: end,
         part: RULE_PART,
         attributes,
         nodes,
     })
+}
+
+fn read_rule(sheet: &[u8], index: &mut [u16], notes: &mut [u8], p: Progress) -> Read
+    requires { ⌜ Reading (now sheet) p × (length (now index) ≡ indexSize) × (length (now sheet) ≤ length (now notes)) ⌝ }
+    ensures { λ r. ⌜ ReadAs r (now (index .exit)) (now (index .entry)) (scanRule (now (sheet .entry)) p (now (index .entry))) ⌝ }
+    ensures { λ r. ⌜ NotesOn (now (sheet .entry)) p (now (index .entry)) (now (notes .entry)) (now (index .exit)) (now (notes .exit)) r ⌝ }
+{
+    let at = p.at;
+    if sheet.len() < at + 5 {
+        return Read::Stops(2, 0);
+    }
+    if sheet.len() < at + 5 + values::two(sheet, at + 3) as usize {
+        return Read::Stops(2, 0);
+    }
+    let k = wide(sheet[at + 1]);
+    let a = wide(sheet[at + 2]);
+    if LAST_KIND < k {
+        return Read::Stops(4, 0);
+    }
+    if p.attributes <= a {
+        return Read::Stops(4, 0);
+    }
+    let place = lookup::rule_place(k, a);
+    let parameter = values::parameter_at(sheet, a);
+    let result = values::result_at(sheet, a);
+    read_piece(
+        sheet,
+        index,
+        notes,
+        p,
+        place,
+        at + 2,
+        true,
+        parameter,
+        result,
+    )
+}
+
+// A forward is of type Node, and 0x31 may not be used in it.
+fn read_forward(sheet: &[u8], index: &mut [u16], notes: &mut [u8], p: Progress) -> Read
+    requires { ⌜ Reading (now sheet) p × (length (now index) ≡ indexSize) × (length (now sheet) ≤ length (now notes)) ⌝ }
+    ensures { λ r. ⌜ ReadAs r (now (index .exit)) (now (index .entry)) (scanForward (now (sheet .entry)) p (now (index .entry))) ⌝ }
+    ensures { λ r. ⌜ NotesOn (now (sheet .entry)) p (now (index .entry)) (now (notes .entry)) (now (index .exit)) (now (notes .exit)) r ⌝ }
+{
+    let at = p.at;
+    if sheet.len() < at + 4 {
+        return Read::Stops(2, 0);
+    }
+    if sheet.len() < at + 4 + values::two(sheet, at + 2) as usize {
+        return Read::Stops(2, 0);
+    }
+    let k = wide(sheet[at + 1]);
+    if LAST_KIND < k {
+        return Read::Stops(4, 0);
+    }
+    read_piece(
+        sheet,
+        index,
+        notes,
+        p,
+        lookup::forward_place(k),
+        at + 1,
+        false,
+        UNIT_CODE,
+        NODE_CODE,
+    )
 }
 
 fn read_end(sheet: &[u8], p: Progress) -> Read
@@ -242,6 +311,7 @@ fn read_command(sheet: &[u8], index: &mut [u16], notes: &mut [u8], p: Progress) 
         0x4E => read_node(sheet, index, p),
         0x56 => read_figure(sheet, index, p),
         0x52 => read_rule(sheet, index, notes, p),
+        0x46 => read_forward(sheet, index, notes, p),
         0x5A => read_end(sheet, p),
         _ => Read::Stops(2, 0),
     }
@@ -257,12 +327,15 @@ fn is_defined(index: &[u16], n: usize, k: usize, a: usize) -> bool
     figure + rule != 0
 }
 
-// The lowest attribute below a limit that a node lacks, or the limit.
+// The lowest attribute below a limit that a node lacks, or the limit. Where its kind has a forward it lacks none.
 fn lowest_lacked(sheet: &[u8], index: &[u16], attributes: usize, limit: usize, n: usize) -> usize
     requires { ⌜ Declared (now sheet) (now index) attributes n × (limit ≤ attributes) ⌝ }
     ensures { λ r. ⌜ Lacks (isIndexed (now (sheet .entry)) (now (index .entry)) attributes n) limit r ⌝ }
 {
     let k = values::kind_at(sheet, attributes, n) as usize;
+    if values::cell_at(index, lookup::forward_place(k)) != 0 {
+        return limit;
+    }
     let mut a = 0;
     while a < limit {
         if !is_defined(index, n, k, a) {
@@ -309,14 +382,14 @@ fn complete(sheet: &[u8], index: &mut [u16], p: Progress) -> SheetCheck
     SheetCheck::Refused(8, place)
 }
 
-// The commands from the front, then the pass for missing pairs. The rules' part of the index is emptied first.
+// The commands from the front, then the pass for missing pairs. The part of the index for rules and forwards is emptied first.
 fn read_commands(sheet: &[u8], index: &mut [u16], notes: &mut [u8]) -> SheetCheck
     requires { ⌜ (length (now sheet) ≤ sheetLimit) × (length (now index) ≡ indexSize) × (length (now sheet) ≤ length (now notes)) ⌝ }
     ensures { λ r. ⌜ scanOf r (now (index .exit))
-        ≡ scanFrom (suc (length (now (sheet .entry)))) (now (sheet .entry)) start (emptied (now (index .entry)) rulesAt rulePlaces) ⌝ }
+        ≡ scanFrom (suc (length (now (sheet .entry)))) (now (sheet .entry)) start (emptied (now (index .entry)) piecesAt piecePlaces) ⌝ }
     ensures { λ r. ⌜ ChecksNotes (now (sheet .entry)) r (now (index .exit)) (now (notes .exit)) ⌝ }
 {
-    values::clear(index, RULES_AT, RULE_PLACES);
+    values::clear(index, PIECES_AT, PIECE_PLACES);
     let mut p = Progress {
         at: 0,
         part: ATTRIBUTE_PART,
@@ -338,8 +411,8 @@ fn read_commands(sheet: &[u8], index: &mut [u16], notes: &mut [u8]) -> SheetChec
     }
 }
 
-// The check of a sheet. It fills the index: at its place each figure and each rule, as the offset of its command and one, or 0. At the place of each
-// byte with which an expression of a rule starts it notes the expression's width less one.
+// The check of a sheet. It fills the index: at its place each figure, as the offset of its command and one, and each rule and each forward, as the offset of
+// its length; or 0. At the place of each byte with which an expression of a rule or a forward starts it notes the expression's width less one.
 pub fn check(
     sheet: &[u8],
     index: &mut [u16; INDEX_SIZE],

@@ -7,14 +7,17 @@ ghost use mathlib.Core.Path.{_≡_};
 ghost use Prim.Native.Nat.{_+_, _-_, _≤_, _<_};
 ghost use lib.ListN.{length, getD};
 ghost use Rattle.saiga.specs.Limits.{attributeLimit, nodeLimit, lastKind};
-ghost use Rattle.sheets.specs.Scan.{figurePlace, rulePlace, attributesPlace, nodesPlace, indexSize, figureAt, pieceAt, indexed, IndexedPair, IndexedRule, ruleNumber, figureOf};
+ghost use Rattle.sheets.specs.Scan.{figurePlace, rulePlace, forwardPlace, attributesPlace, nodesPlace, indexSize, figureAt, pieceAt, indexed, IndexedPair, ruleNumber, forwardNumber, figureOf, pieceFor, PieceHere};
 
-// The index: where its rules stand and how many places they have, the places of the numbers of attributes and nodes, and its size.
-pub const RULES_AT: usize = NODE_LIMIT * ATTRIBUTE_LIMIT;
+// The index: where its rules stand, where its forwards stand behind them, and how many places both have; the places of the numbers of attributes and
+// nodes; and its size.
+pub const PIECES_AT: usize = NODE_LIMIT * ATTRIBUTE_LIMIT;
 
-pub const RULE_PLACES: usize = (LAST_KIND + 1) * ATTRIBUTE_LIMIT;
+const FORWARDS_AT: usize = PIECES_AT + (LAST_KIND + 1) * ATTRIBUTE_LIMIT;
 
-pub const ATTRIBUTES_PLACE: usize = RULES_AT + RULE_PLACES;
+pub const PIECE_PLACES: usize = (LAST_KIND + 1) * ATTRIBUTE_LIMIT + LAST_KIND + 1;
+
+pub const ATTRIBUTES_PLACE: usize = PIECES_AT + PIECE_PLACES;
 
 pub const NODES_PLACE: usize = ATTRIBUTES_PLACE + 1;
 
@@ -26,7 +29,13 @@ pub enum FoundFigure {
     NoFigure,
 }
 
-// The places of a figure and of a rule in the index.
+// A definition that is a piece of the sheet, by the offset of its length: a rule, or a forward.
+pub enum FoundPiece {
+    OfRule(usize),
+    OfForward(usize),
+}
+
+// The places of a figure, of a rule and of a forward in the index.
 pub fn figure_place(n: usize, a: usize) -> usize
     requires { ⌜ (n < nodeLimit) × (a < attributeLimit) ⌝ }
     ensures { λ r. ⌜ r ≡ figurePlace n a ⌝ }
@@ -38,7 +47,14 @@ pub fn rule_place(k: usize, a: usize) -> usize
     requires { ⌜ (k ≤ lastKind) × (a < attributeLimit) ⌝ }
     ensures { λ r. ⌜ r ≡ rulePlace k a ⌝ }
 {
-    RULES_AT + k * ATTRIBUTE_LIMIT + a
+    PIECES_AT + k * ATTRIBUTE_LIMIT + a
+}
+
+pub fn forward_place(k: usize) -> usize
+    requires { ⌜ k ≤ lastKind ⌝ }
+    ensures { λ r. ⌜ r ≡ forwardPlace k ⌝ }
+{
+    FORWARDS_AT + k
 }
 
 // How many attributes and nodes an accepted sheet declares.
@@ -68,30 +84,25 @@ pub fn figure(sheet: &[u8], index: &[u16], n: usize, a: usize) -> FoundFigure
     FoundFigure::Of(values::value_of(values::result_at(sheet, a), values::four(sheet, number + 3)))
 }
 
-// The number that the index has for the rule of a node's kind and an attribute.
-fn rule_number(sheet: &[u8], index: &[u16], n: usize, a: usize) -> usize
-    requires { ⌜ IndexedRule (now sheet) (now index) n a ⌝ }
-    ensures { λ r. ⌜ r ≡ ruleNumber (now (sheet .entry)) (now (index .entry)) n a ⌝ }
+// What defines a pair that has no figure: the rule for the node's kind and the attribute, else the kind's forward.
+pub fn found_piece(sheet: &[u8], index: &[u16], n: usize, a: usize) -> FoundPiece
+    requires { ⌜ IndexedPair (now sheet) (now index) n a ⌝ }
+    ensures { λ r. ⌜ r ≡ pieceFor (ruleNumber (now (sheet .entry)) (now (index .entry)) n a) (forwardNumber (now (sheet .entry)) (now (index .entry)) n) ⌝ }
 {
     let k = values::kind_at(sheet, attribute_count(index), n) as usize;
-    values::cell_at(index, rule_place(k, a))
+    let number = values::cell_at(index, rule_place(k, a));
+    if number != 0 {
+        return FoundPiece::OfRule(number);
+    }
+    FoundPiece::OfForward(values::cell_at(index, forward_place(k)))
 }
 
-// The piece of the rule for a node's kind and an attribute, as a part of the sheet.
-pub fn rule<'a>(sheet: &'a [u8], index: &[u16], n: usize, a: usize) -> &'a [u8]
-    requires { ⌜ IndexedRule (now sheet) (now index) n a ⌝ }
-    ensures { λ r. ⌜ now r ≡ pieceAt (now (sheet .entry)) (ruleNumber (now (sheet .entry)) (now (index .entry)) n a - 1) ⌝ }
+// The piece whose length stands at an offset, as a part of the sheet.
+pub fn piece<'a>(sheet: &'a [u8], number: usize) -> &'a [u8]
+    requires { ⌜ PieceHere (now sheet) number ⌝ }
+    ensures { λ r. ⌜ now r ≡ pieceAt (now (sheet .entry)) (number - 1) ⌝ }
 {
-    let number = rule_number(sheet, index, n, a);
-    let start = number + 4;
-    let end = start + values::two(sheet, number + 2) as usize;
+    let start = number + 2;
+    let end = start + values::two(sheet, number) as usize;
     &sheet[start..end]
-}
-
-// Where that piece starts in the sheet.
-pub fn rule_start(sheet: &[u8], index: &[u16], n: usize, a: usize) -> usize
-    requires { ⌜ IndexedRule (now sheet) (now index) n a ⌝ }
-    ensures { λ r. ⌜ r ≡ ruleNumber (now (sheet .entry)) (now (index .entry)) n a + 4 ⌝ }
-{
-    rule_number(sheet, index, n, a) + 4
 }

@@ -31,7 +31,7 @@ sheetFound (accepted s) = 0 ∷ 0 ∷ attributeCount s ∷ nodeCount s ∷ []
 -- the bytes are too short for there are as many as stand there whole.
 unfoldable pub declaring : List ℕ → ℕ → ℕ → Sheet
 declaring bytes attributes nodes =
-    record { attributes = attributesIn bytes (min attributes (length bytes / 3)); kinds = replicate nodes 0; figures = []; rules = [] }
+    record { attributes = attributesIn bytes (min attributes (length bytes / 3)); kinds = replicate nodes 0; figures = []; rules = []; forwards = [] }
 
 -- What the check of a store brings, for any arguments: its sheet declares as many attributes and nodes as the index says. Of a sheet that was accepted
 -- with this index it is the check of document 01, and a store that passes is then indexed. The links keep their length; of a store that is refused

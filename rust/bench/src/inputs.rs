@@ -234,6 +234,36 @@ pub fn inside_63() -> Input {
     }
 }
 
+/// A chain of 64 nodes, in which all but the first are of kinds that do nothing but forward to this node's attribute 0, the node before, a figure.
+/// Attribute 1 of the last is a figure of the first, after 63 hops of two AttrApps each, inside as many forms. The question is the sum of 18 such with
+/// capacity 0: 2,320 steps.
+pub fn forwards() -> Input {
+    const NODES: u16 = 64;
+    const KINDS: u8 = 16;
+    let kind = |number: u16| 1 + (number % u16::from(KINDS - 1)) as u8;
+    let before = |number: u16| i32::from(number) - 1;
+    let sheet = [
+        attribute(NODE_TYPE, UNIT_TYPE),
+        attribute(INT_TYPE, UNIT_TYPE),
+        node(0),
+        (1..NODES).flat_map(|number| node(kind(number))).collect(),
+        figure(0, 0, NULL_FIGURE),
+        figure(0, 1, 7),
+        (1..NODES)
+            .flat_map(|number| figure(number, 0, before(number)))
+            .collect(),
+        (1..KINDS)
+            .flat_map(|kind| forward(kind, &of(&THIS, 0, &UNIT)))
+            .collect(),
+        end(),
+    ];
+    Input {
+        sheet: sheet.concat(),
+        question: sum((0..18).map(|_| of(&node_literal(NODES - 1), 1, &UNIT))),
+        ..Input::default()
+    }
+}
+
 /// A sheet of exactly `size` bytes, whose parts grow together: a node for every 64 bytes, each with 4 figures, a kind for
 /// every 4 KiB or part of it, each with 12 rules in the bytes left. A figure is asked that is kept, in a store of as many
 /// entries as there are nodes.
@@ -309,6 +339,7 @@ mod tests {
         assert_eq!(counts(&parameterised()), (7_882, 738));
         assert_eq!(counts(&deep_parameters()), (6_142, 1_024));
         assert_eq!(counts(&inside_63()), (135_124, 0));
+        assert_eq!(counts(&forwards()), (2_320, 0));
         assert_eq!(counts(&sized(1_024)), (1, 16));
         assert_eq!(counts(&sized(16_384)), (1, 256));
         assert_eq!(counts(&sized(65_536)), (1, 1_024));

@@ -82,6 +82,7 @@ pub fn ordinary(left: impl Fn(&Input) -> Input) -> Vec<Row> {
             inputs::deep_parameters(),
         ),
         row(INSIDE_63, Question, Step, inputs::inside_63()),
+        row("Step: forwards", Question, Step, inputs::forwards()),
         row(
             "One kept figure, sheet and store checked",
             Kept,

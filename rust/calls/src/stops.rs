@@ -14,13 +14,13 @@ pub enum Stop {
     TooMany = 3,
     /// A command's operand is outside its values or undeclared.
     Operand = 4,
-    /// A second figure for a pair, or a second rule for a kind and attribute.
+    /// A second figure for a pair, a second rule for a kind and attribute, or a second forward for a kind.
     SecondDefinition = 5,
-    /// A rule's length or expression is not of the form.
+    /// The length or expression of a rule or forward is not of the form, or a forward uses the parameter.
     RuleForm = 6,
-    /// A rule is not of its attribute's type.
+    /// A rule is not of its attribute's type, or a forward is no Node.
     RuleType = 7,
-    /// A declared pair of node and attribute has neither figure nor rule.
+    /// A declared pair of node and attribute has neither figure nor rule, and the node's kind no forward.
     NoDefinition = 8,
     /// The store's length is no capacity, or more is kept than it has room for.
     StoreShape = 9,
@@ -118,11 +118,15 @@ impl fmt::Display for Stop {
             Stop::TooMany => "the sheet declares a 33rd attribute or a 1,025th node",
             Stop::Operand => "a command's operand is outside its values or undeclared",
             Stop::SecondDefinition => {
-                "a second figure for one node and attribute, or a second rule for one kind and attribute"
+                "a second figure for one node and attribute, a second rule for one kind and attribute, or a second forward for one kind"
             }
-            Stop::RuleForm => "a rule is not a well-formed expression of 1 to 256 bytes",
-            Stop::RuleType => "a rule is not of its attribute's type",
-            Stop::NoDefinition => "an attribute of a node has neither a figure nor a rule",
+            Stop::RuleForm => {
+                "a rule or forward is not a well-formed expression of 1 to 256 bytes, or a forward uses the parameter"
+            }
+            Stop::RuleType => "a rule is not of its attribute's type, or a forward is no Node",
+            Stop::NoDefinition => {
+                "an attribute of a node has neither a figure nor a rule, and the node's kind no forward"
+            }
             Stop::StoreShape => {
                 "the store's length is not that of 0 to 1,024 entries, or more is kept than it has room for"
             }

@@ -40,13 +40,16 @@ impl Ways {
         Ok(counts)
     }
 
-    /// As `agree`, and tries demand 3 in every way. What was tried is counted once.
+    /// As `agree`, and tries demand 3 in every way, and forwards beside rules in their place. What was tried is counted once.
     pub fn agree_and_keep_demand_3(&mut self, case: &Case) -> Result<Counts, String> {
         let mut counts = self.agree(case)?;
         for (name, engine) in self.all() {
             let tried = trials::demand3(engine, case)
                 .map_err(|violation| format!("{name}: {violation}"))?;
             counts.checks = tried.checks;
+            let tried =
+                trials::as_rules(engine, case).map_err(|differs| format!("{name}: {differs}"))?;
+            counts.checks.extend(tried.checks);
         }
         Ok(counts)
     }
@@ -109,8 +112,8 @@ impl Engine for Lent {
     }
 }
 
-/// A call that writes every part of its scratch: the most attributes and nodes, figures and rules for all of them, a full store, and
-/// an attribute that is itself with one more, which opens as many forms as can be.
+/// A call that writes every part of its scratch: the most attributes and nodes, figures and rules for all of them, a forward for each kind, a full
+/// store, and an attribute that is itself with one more, which opens as many forms as can be.
 fn filling() -> Case {
     const ATTRIBUTES: u8 = 32;
     const NODES: u16 = 1_024;
@@ -134,6 +137,7 @@ fn filling() -> Case {
             sheet.extend(rule(kind, attribute, &of(&THIS, attribute, &UNIT)));
         }
         sheet.extend(rule(kind, LAST, &deeper));
+        sheet.extend(forward(kind, &THIS));
     }
     sheet.extend(end());
     let question = of(&node_literal(0), LAST, &int(0));

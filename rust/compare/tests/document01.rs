@@ -6,6 +6,8 @@ mod circles;
 mod common;
 #[path = "../../trials/tests/document01/depth.rs"]
 mod depth;
+#[path = "../../trials/tests/document01/forwards.rs"]
+mod forwards;
 #[path = "../../trials/tests/document01/ints.rs"]
 mod ints;
 #[path = "../../trials/tests/document01/overflow.rs"]

@@ -1,7 +1,7 @@
 //! The proved calls at the edges of their input, against the second evaluator.
 
 use compare::Ways;
-use trials::write::{d, entry, sheet_l, NODE_TYPE, UP};
+use trials::write::{d, entry, node_literal, of, sheet_l, sheet_lf, DIAL, NODE_TYPE, UNIT, UP};
 use trials::{Ask, Case, Oracle};
 
 /// The stop from 1 to 13 that both say of a call, or none. All else of their answers, and the store, must be the same too.
@@ -67,13 +67,15 @@ fn sheet_l_whole_cut_and_too_long() {
 }
 
 #[test]
-fn every_single_byte_of_sheet_l_changed() {
-    let sheet = sheet_l();
-    for at in 0..sheet.len() {
-        for byte in 0..=255 {
-            let mut changed = sheet.clone();
-            changed[at] = byte;
-            verdict(&changed, &d(), &[0; 24], 0, 10);
+fn every_single_byte_of_sheets_l_and_lf_changed() {
+    let dial_3 = of(&node_literal(3), DIAL, &UNIT);
+    for (sheet, question) in [(sheet_l(), d()), (sheet_lf(), dial_3)] {
+        for at in 0..sheet.len() {
+            for byte in 0..=255 {
+                let mut changed = sheet.clone();
+                changed[at] = byte;
+                verdict(&changed, &question, &[0; 24], 0, 12);
+            }
         }
     }
 }
@@ -128,15 +130,35 @@ fn operands_at_both_ends() {
 }
 
 #[test]
-fn rule_lengths() {
-    for length in [0u16, 1, 255, 256, 257, 65_535] {
-        for present in [0usize, 1, 2, 256, 257, 300] {
-            let mut sheet = vec![0x41, 0, 0, 0x4E, 0, 0x52, 0, 0];
-            sheet.extend(length.to_le_bytes());
-            sheet.resize(sheet.len() + present, 0x10);
-            sheet.push(0x5A);
-            of_sheet(&sheet);
+fn lengths_of_rules_and_forwards() {
+    for (command, head) in [(&[0x52, 0, 0][..], 0x10), (&[0x46, 0], 0x30)] {
+        for length in [0u16, 1, 255, 256, 257, 65_535] {
+            for present in [0usize, 1, 2, 256, 257, 300] {
+                let mut sheet = [&[0x41, 0, 0, 0x4E, 0], command].concat();
+                sheet.extend(length.to_le_bytes());
+                sheet.resize(sheet.len() + present, head);
+                sheet.push(0x5A);
+                of_sheet(&sheet);
+            }
         }
+    }
+}
+
+#[test]
+fn forwards_of_every_kind() {
+    // Kinds from 16 on are none. A second forward of a kind is one too many.
+    for kind in 0..=255 {
+        let forward = [0x46, kind, 1, 0, 0x30];
+        let once = [&[0x41, 0, 0, 0x4E, 15], &forward[..], &[0x5A]].concat();
+        let expected = match kind {
+            15 => None,
+            0..15 => Some((8, 0)),
+            _ => Some((4, 5)),
+        };
+        assert_eq!(of_sheet(&once), expected, "{kind}");
+        let twice = [&[0x41, 0, 0, 0x4E, 15], &forward[..], &forward, &[0x5A]].concat();
+        let expected = if kind < 16 { (5, 10) } else { (4, 5) };
+        assert_eq!(of_sheet(&twice), Some(expected), "{kind}");
     }
 }
 

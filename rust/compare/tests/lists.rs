@@ -11,7 +11,7 @@ use trials::{Ask, Case, Oracle};
 #[test]
 fn the_vectors_agree() {
     let lists = read_lists(include_str!("../../../tests/vectors/lists.txt")).expect("their form");
-    assert_eq!(lists.len(), 342);
+    assert_eq!(lists.len(), 518);
     let mut ways = Ways::default();
     for listed in lists {
         for (name, engine) in ways.all() {

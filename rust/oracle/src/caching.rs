@@ -1,4 +1,4 @@
-//! Document 01, "The steps", and stops 14 to 16 of "Stops by origin"; document 02, F-2, F-4, F-8 and F-9.
+//! Document 01, "The steps", and stops 14 to 16 of "Stops by origin"; document 02, F-2, F-4, F-7, F-8 and F-9.
 //!
 //! A recursive evaluator over the expression tree: "left part before right part, IF by condition only". A call of `evaluate` inside that of
 //! a definition is what lies inside the form n.a(v) := e.
@@ -43,7 +43,7 @@ pub struct Outcome {
 /// Evaluates an accepted question. "Stops 14 to 16 bring the tally so far", and so do 17 and 20, each of which "leaves store and tally as 14
 /// does".
 pub fn evaluate(sheet: &Sheet, store: &mut Store, question: &Expr, budget: u64) -> Outcome {
-    let levels = question.depth() + MOST_OPEN * (1 + sheet.deepest_rule());
+    let levels = question.depth() + MOST_OPEN * (1 + sheet.deepest_expression());
     let mut run = Run {
         sheet,
         store,
@@ -143,15 +143,18 @@ impl<'a> Run<'a, '_> {
             return Err(Reason::Depth);
         }
         self.count(rule);
+        self.open.push(occurrence);
+        let here = Some((node, parameter));
         let value = match self.sheet.definition(node, attribute) {
             Definition::Figure(figure) => figure,
-            Definition::Rule(expr) => {
-                self.open.push(occurrence);
-                let value = self.evaluate(expr, Some((node, parameter)))?;
-                self.open.pop();
-                value
+            Definition::Rule(expr) => self.evaluate(expr, here)?,
+            // "Attribute a of f with parameter v, all by the ordinary steps": f's value, and AttrApp on that.
+            Definition::Forward(f) => {
+                let node = self.evaluate(f, here)?;
+                self.attribute(node, attribute, parameter)?
             }
         };
+        self.open.pop();
         self.store.write(occurrence, value);
         Ok(value)
     }

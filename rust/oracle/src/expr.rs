@@ -1,8 +1,8 @@
-//! Document 01, "The sheet", where it speaks of expressions: their form, and their types by document 001's figures 5 and 8.
+//! Document 01, "The sheet", where it speaks of expressions: their form, and their types by document 001's figures 5 and 8; document 02, F-7.
 
 use crate::values::{self, Base, Function, Type, Value};
 
-/// A rule's length is "1 to 256", and a question is "of 1 to 256 bytes".
+/// A rule's length is "1 to 256" and so is a forward's, and a question is "of 1 to 256 bytes".
 pub const LONGEST: usize = 256;
 
 /// An expression as a sheet or a question writes it.
@@ -26,13 +26,41 @@ pub struct Attribute {
     pub parameter: Base,
 }
 
+/// What an expression is for, which settles whether it can speak of this node and of the parameter.
+#[derive(Clone, Copy, Debug, PartialEq, Eq)]
+pub enum Use {
+    /// "Without 0x30 and 0x31".
+    Question,
+    /// It "may use 0x30 but not 0x31" (document 02, F-7).
+    Forward,
+    /// It can use both: "0x31 the parameter type".
+    Rule { parameter: Base },
+}
+
+impl Use {
+    /// The type of 0x30, where it can stand.
+    fn this_node(self) -> Option<Type> {
+        match self {
+            Use::Question => None,
+            Use::Forward | Use::Rule { .. } => Some(Type::Base(Base::Node)),
+        }
+    }
+
+    /// The type of 0x31, where it can stand.
+    fn parameter(self) -> Option<Type> {
+        match self {
+            Use::Question | Use::Forward => None,
+            Use::Rule { parameter } => Some(Type::Base(parameter)),
+        }
+    }
+}
+
 /// What an expression can speak of.
 #[derive(Clone, Copy, Debug)]
 pub struct Scope<'a> {
     pub attributes: &'a [Attribute],
     pub nodes: usize,
-    /// The type of 0x31 in a rule; `None` in a question, which is "without 0x30 and 0x31".
-    pub parameter: Option<Base>,
+    pub usage: Use,
 }
 
 impl Expr {
@@ -71,8 +99,8 @@ impl Expr {
                 (node == Type::Base(Base::Node) && parameter == Type::Base(declared.parameter))
                     .then_some(Type::Base(declared.result))
             }
-            Expr::ThisNode => scope.parameter.map(|_| Type::Base(Base::Node)),
-            Expr::Parameter => scope.parameter.map(Type::Base),
+            Expr::ThisNode => scope.usage.this_node(),
+            Expr::Parameter => scope.usage.parameter(),
         }
     }
 
@@ -141,8 +169,8 @@ fn read_head<'b>(bytes: &'b [u8], scope: Scope) -> Option<(Expr, &'b [u8])> {
             let parts = Box::new([node, parameter]);
             Some((Expr::Attribute(attribute, parts), rest))
         }
-        0x30 => scope.parameter.map(|_| (Expr::ThisNode, rest)),
-        0x31 => scope.parameter.map(|_| (Expr::Parameter, rest)),
+        0x30 => scope.usage.this_node().map(|_| (Expr::ThisNode, rest)),
+        0x31 => scope.usage.parameter().map(|_| (Expr::Parameter, rest)),
         _ => None,
     }
 }

@@ -1,8 +1,8 @@
-//! Document 01, "Plain Saiga": no store, no budget and no limit on depth; document 02, F-4 and F-9.
+//! Document 01, "Plain Saiga": no store, no budget and no limit on depth; document 02, F-4, F-7 and F-9.
 //!
 //! The state is one expression and a count. The expression is kept as the part being stepped and what stands around it,
-//! from the outside in. σ(n, a, v) is its rule's expression with n and v beside it, put for 0x30 and 0x31 where these
-//! are reached.
+//! from the outside in. σ(n, a, v) is its rule's expression, or a forward's and what stands around that, with n and v
+//! beside it, put for 0x30 and 0x31 where these are reached.
 
 use std::collections::HashSet;
 
@@ -176,7 +176,7 @@ pub fn watch(sheet: &Sheet, question: &Expr, limit: u64) -> Watched {
                         steps: count,
                     });
                 }
-                context(sheet, occurrence)
+                context(sheet, occurrence, &mut around)
             }
             Some(Around::Parameter { node, .. }) => {
                 unreachable!("ill typed: attribute of {node:?}")
@@ -197,11 +197,11 @@ fn descend<'a>(mut written: Written<'a>, around: &mut Vec<Around<'a>>) -> Value 
         let first = match written.expr {
             Expr::Literal(value) => return *value,
             Expr::ThisNode => {
-                let occurrence = written.occurrence.expect("0x30 stands in a rule");
+                let occurrence = written.occurrence.expect("a question does not say 0x30");
                 return Value::Node(Some(occurrence.node));
             }
             Expr::Parameter => {
-                let occurrence = written.occurrence.expect("0x31 stands in a rule");
+                let occurrence = written.occurrence.expect("a question does not say 0x31");
                 return occurrence.parameter;
             }
             Expr::If(parts) => {
@@ -232,13 +232,22 @@ fn descend<'a>(mut written: Written<'a>, around: &mut Vec<Around<'a>>) -> Value 
     }
 }
 
-/// What "takes the place of this part": σ(n, a, v).
-fn context(sheet: &Sheet, occurrence: Occurrence) -> Part<'_> {
+/// What "takes the place of this part": σ(n, a, v). Of "attribute a of f with parameter v" (document 02, F-7) the part being stepped is f, and the
+/// rest stands around it.
+fn context<'a>(sheet: &'a Sheet, occurrence: Occurrence, around: &mut Vec<Around<'a>>) -> Part<'a> {
+    let written = |expr| Written {
+        expr,
+        occurrence: Some(occurrence),
+    };
     match sheet.definition(occurrence.node, occurrence.attribute) {
         Definition::Figure(value) => Part::Value(value),
-        Definition::Rule(expr) => Part::Written(Written {
-            expr,
-            occurrence: Some(occurrence),
-        }),
+        Definition::Rule(expr) => Part::Written(written(expr)),
+        Definition::Forward(f) => {
+            around.push(Around::Node {
+                attribute: occurrence.attribute,
+                parameter: written(&Expr::Parameter),
+            });
+            Part::Written(written(f))
+        }
     }
 }

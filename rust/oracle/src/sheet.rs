@@ -1,6 +1,6 @@
-//! Document 01, "The sheet", and stops 1 to 8 of "Stops by origin".
+//! Document 01, "The sheet", and stops 1 to 8 of "Stops by origin"; document 02, F-1 and F-7.
 
-use crate::expr::{Attribute, Expr, Scope, LONGEST};
+use crate::expr::{take, Attribute, Expr, Scope, Use, LONGEST};
 use crate::stop::{Reason, Stop};
 use crate::values::{Base, Type, Value};
 
@@ -11,7 +11,7 @@ pub const MOST_ATTRIBUTES: usize = 32;
 /// Nodes: "at most 1,024".
 pub const MOST_NODES: usize = 1_024;
 /// "Kind 0 to 15".
-const KINDS: u8 = 16;
+const KINDS: usize = 16;
 
 /// An accepted sheet, or what has been read of one.
 #[derive(Debug, Default)]
@@ -23,49 +23,80 @@ pub struct Sheet {
     figures: Vec<Option<Value>>,
     /// By kind and declared attribute; none before the first rule.
     rules: Vec<Option<Expr>>,
-    deepest_rule: usize,
+    /// By kind.
+    forwards: [Option<Expr>; KINDS],
+    deepest_expression: usize,
 }
 
-/// σ(n, a, v): "the figure for (n, a) if there is one, else the rule for n's kind and a".
+/// σ(n, a, v): "the figure for (n, a) if there is one, else the rule for n's kind and a". "Where a pair has neither figure nor rule and its kind
+/// has a forward f, σ(n, a, v) is attribute a of f with parameter v" (document 02, F-7).
 #[derive(Clone, Copy, Debug)]
 pub enum Definition<'a> {
     Figure(Value),
     Rule(&'a Expr),
+    /// f.
+    Forward(&'a Expr),
 }
 
-/// "Commands of one byte with operands of fixed widths, in this order of kind".
+/// "Commands of one byte with operands of fixed widths".
+#[derive(Clone, Copy, PartialEq, Eq)]
+enum Command {
+    Attribute,
+    Node,
+    Figure,
+    Rule,
+    Forward,
+    End,
+}
+
+/// "In this order of kind". A forward "stands among the rules in any order" (document 02, F-7).
 #[derive(Clone, Copy, PartialEq, Eq, PartialOrd, Ord)]
 enum Part {
     Attributes,
     Nodes,
     Figures,
-    Rules,
+    RulesAndForwards,
     End,
 }
 
-impl Part {
-    fn from_command(command: u8) -> Option<Part> {
-        match command {
-            0x41 => Some(Part::Attributes),
-            0x4E => Some(Part::Nodes),
-            0x56 => Some(Part::Figures),
-            0x52 => Some(Part::Rules),
-            0x5A => Some(Part::End),
+impl Command {
+    fn from_code(code: u8) -> Option<Command> {
+        match code {
+            0x41 => Some(Command::Attribute),
+            0x4E => Some(Command::Node),
+            0x56 => Some(Command::Figure),
+            0x52 => Some(Command::Rule),
+            0x46 => Some(Command::Forward),
+            0x5A => Some(Command::End),
             _ => None,
         }
     }
 
-    /// How many operand bytes the command that stands before `rest` has; a rule's expression is among them.
-    fn operands(self, rest: &[u8]) -> Option<usize> {
+    fn part(self) -> Part {
         match self {
-            Part::Attributes => Some(2),
-            Part::Nodes => Some(1),
-            Part::Figures => Some(7),
-            Part::Rules => {
-                let length = rest.get(2..4)?;
-                Some(4 + usize::from(u16::from_le_bytes([length[0], length[1]])))
-            }
-            Part::End => Some(0),
+            Command::Attribute => Part::Attributes,
+            Command::Node => Part::Nodes,
+            Command::Figure => Part::Figures,
+            Command::Rule | Command::Forward => Part::RulesAndForwards,
+            Command::End => Part::End,
+        }
+    }
+
+    /// How many operand bytes the command has that stands before `rest`. The expression of a rule or forward is among them, "with the length it
+    /// states, good or bad".
+    fn operands(self, rest: &[u8]) -> Option<usize> {
+        // The length has two bytes and stands after some others.
+        let with_length = |others: usize| {
+            let (length, _) = take::<2>(rest.get(others..)?)?;
+            Some(others + 2 + usize::from(u16::from_le_bytes(length)))
+        };
+        match self {
+            Command::Attribute => Some(2),
+            Command::Node => Some(1),
+            Command::Figure => Some(7),
+            Command::Rule => with_length(2),
+            Command::Forward => with_length(1),
+            Command::End => Some(0),
         }
     }
 }
@@ -86,17 +117,17 @@ impl Sheet {
             // Stop 2: an "unknown or out-of-order command", a "command cut by the sheet's end", or "no end command": then `at` is "the sheet's
             // length where the end is lacking".
             let out_of_place = Stop::at(Reason::Command, at);
-            let (command, rest) = bytes[at..].split_first().ok_or(out_of_place)?;
-            let part = Part::from_command(*command).ok_or(out_of_place)?;
-            if part < reached {
+            let (code, rest) = bytes[at..].split_first().ok_or(out_of_place)?;
+            let command = Command::from_code(*code).ok_or(out_of_place)?;
+            if command.part() < reached {
                 return Err(out_of_place);
             }
-            let width = part.operands(rest).ok_or(out_of_place)?;
+            let width = command.operands(rest).ok_or(out_of_place)?;
             let operands = rest.get(..width).ok_or(out_of_place)?;
             sheet
-                .command(part, operands)
+                .command(command, operands)
                 .map_err(|reason| Stop::at(reason, at))?;
-            reached = part;
+            reached = command.part();
             at += 1 + width;
         }
         // Stop 2 again: "the first byte after it where bytes follow".
@@ -110,17 +141,18 @@ impl Sheet {
     }
 
     /// Takes in one whole command: stops 3 to 7, of which each function below tests the smaller first.
-    fn command(&mut self, part: Part, operands: &[u8]) -> Result<(), Reason> {
-        match part {
-            Part::Attributes => self.attribute(operands[0], operands[1]),
-            Part::Nodes => self.node(operands[0]),
-            Part::Figures => {
+    fn command(&mut self, command: Command, operands: &[u8]) -> Result<(), Reason> {
+        match command {
+            Command::Attribute => self.attribute(operands[0], operands[1]),
+            Command::Node => self.node(operands[0]),
+            Command::Figure => {
                 let node = u16::from_le_bytes([operands[0], operands[1]]);
                 let value = [operands[3], operands[4], operands[5], operands[6]];
                 self.figure(node, operands[2], value)
             }
-            Part::Rules => self.rule(operands[0], operands[1], &operands[4..]),
-            Part::End => Ok(()),
+            Command::Rule => self.rule(operands[0], operands[1], &operands[4..]),
+            Command::Forward => self.forward(operands[0], &operands[3..]),
+            Command::End => Ok(()),
         }
     }
 
@@ -140,7 +172,7 @@ impl Sheet {
         if self.nodes.len() == MOST_NODES {
             return Err(Reason::TooMany);
         }
-        if kind >= KINDS {
+        if usize::from(kind) >= KINDS {
             return Err(Reason::Operand);
         }
         self.nodes.push(kind);
@@ -166,32 +198,53 @@ impl Sheet {
 
     /// "0x52 rule: kind (1), attribute (1), length 1 to 256 (2), then an expression of exactly that length."
     fn rule(&mut self, kind: u8, attribute: u8, written: &[u8]) -> Result<(), Reason> {
-        if kind >= KINDS {
+        if usize::from(kind) >= KINDS {
             return Err(Reason::Operand);
         }
         let declared = self.declared(attribute).ok_or(Reason::Operand)?;
         if self.rules.is_empty() {
-            let places = usize::from(KINDS) * self.attributes.len();
+            let places = KINDS * self.attributes.len();
             self.rules.resize(places, None);
         }
         let place = self.place(usize::from(kind), attribute);
         if self.rules[place].is_some() {
             return Err(Reason::SecondDefinition);
         }
+        let usage = Use::Rule {
+            parameter: declared.parameter,
+        };
+        self.rules[place] = Some(self.expression(written, usage, declared.result)?);
+        Ok(())
+    }
+
+    /// 0x46 forward: "kind (1), length 1 to 256 (2), expression. The expression has type Node" (document 02, F-7).
+    fn forward(&mut self, kind: u8, written: &[u8]) -> Result<(), Reason> {
+        let kind = usize::from(kind);
+        match self.forwards.get(kind) {
+            None => return Err(Reason::Operand),
+            Some(Some(_)) => return Err(Reason::SecondDefinition),
+            Some(None) => {}
+        }
+        self.forwards[kind] = Some(self.expression(written, Use::Forward, Base::Node)?);
+        Ok(())
+    }
+
+    /// The expression of a rule or forward, of a type: stops 6 and 7. "A bad length, form or 0x31 is 6, a type other than Node is 7" of a forward
+    /// (document 02, F-7).
+    fn expression(&mut self, written: &[u8], usage: Use, typ: Base) -> Result<Expr, Reason> {
         if written.is_empty() || written.len() > LONGEST {
             return Err(Reason::RuleForm);
         }
         let scope = Scope {
-            parameter: Some(declared.parameter),
+            usage,
             ..self.scope()
         };
         let expr = Expr::read(written, scope).ok_or(Reason::RuleForm)?;
-        if expr.type_of(scope) != Some(Type::Base(declared.result)) {
+        if expr.type_of(scope) != Some(Type::Base(typ)) {
             return Err(Reason::RuleType);
         }
-        self.deepest_rule = self.deepest_rule.max(expr.depth());
-        self.rules[place] = Some(expr);
-        Ok(())
+        self.deepest_expression = self.deepest_expression.max(expr.depth());
+        Ok(expr)
     }
 
     /// Stop 8's place, node × 32 + attribute: of the pairs without definition "the one with the lowest attribute, and among those the lowest node"
@@ -206,14 +259,17 @@ impl Sheet {
         Some(node * MOST_ATTRIBUTES + usize::from(attribute))
     }
 
-    /// The definition of a declared pair, where there is one.
+    /// The definition of a declared pair, where there is one. "A pair is missing only if its kind has no forward either" (document 02, F-7).
     fn lookup(&self, node: usize, attribute: u8) -> Option<Definition<'_>> {
         if let Some(value) = self.figures[self.place(node, attribute)] {
             return Some(Definition::Figure(value));
         }
         let kind = usize::from(self.nodes[node]);
-        let rule = self.rules.get(self.place(kind, attribute))?;
-        rule.as_ref().map(Definition::Rule)
+        let rule = self.rules.get(self.place(kind, attribute));
+        if let Some(Some(expr)) = rule {
+            return Some(Definition::Rule(expr));
+        }
+        self.forwards[kind].as_ref().map(Definition::Forward)
     }
 
     /// The definition in force: "every declared pair (n, a) must have one".
@@ -242,7 +298,7 @@ impl Sheet {
         Scope {
             attributes: &self.attributes,
             nodes: self.nodes.len(),
-            parameter: None,
+            usage: Use::Question,
         }
     }
 
@@ -251,8 +307,8 @@ impl Sheet {
         row * self.attributes.len() + usize::from(attribute)
     }
 
-    /// The depth of the deepest rule.
-    pub fn deepest_rule(&self) -> usize {
-        self.deepest_rule
+    /// The depth of the deepest rule or forward.
+    pub fn deepest_expression(&self) -> usize {
+        self.deepest_expression
     }
 }

@@ -1,4 +1,5 @@
-//! Document 01, "Sheet L and its questions": L1 to L13 with their tallies (document 02, F-2, F-4 and F-9), from bytes written out by hand.
+//! Document 01, "Sheet L and its questions": L1 to L13 with their tallies (document 02, F-2, F-4 and F-9), and sheet LF, which is L with a forward
+//! (document 02, F-7), from bytes written out by hand.
 //! `rust/trials` puts many more cases to the evaluator.
 
 use oracle::ask::{ask, read_question};
@@ -31,6 +32,27 @@ const SHEET_L: [u8; 103] = [
 /// One node, and one attribute defined as itself.
 const SHEET_L12: [u8; 15] = [
     0x41, 2, 0, 0x4E, 0, 0x52, 0, 0, 4, 0, 0x22, 0, 0x30, 0x10, 0x5A,
+];
+/// Sheet L, with a node 3 of kind 2, whose up is node 1; for kind 2, a forward to this node's up.
+const SHEET_LF: [u8; 121] = [
+    0x41, 3, 0, 0x41, 2, 0, 0x41, 2, 0, // up: a Node; own and dial: Ints
+    0x4E, 0, 0x4E, 1, 0x4E, 1, 0x4E, 2, // node 3 of kind 2
+    0x56, 0, 0, 0, 0xFF, 0xFF, 0, 0, // node 0: up is null,
+    0x56, 0, 0, 1, 0xBC, 0x02, 0, 0, // own is 700
+    0x56, 1, 0, 0, 0, 0, 0, 0, // node 1: up is node 0,
+    0x56, 1, 0, 1, 0, 0, 0, 0, // own is 0
+    0x56, 2, 0, 0, 0, 0, 0, 0, // node 2: up is node 0,
+    0x56, 2, 0, 1, 0x2B, 0x03, 0, 0, // own is 811
+    0x56, 3, 0, 0, 1, 0, 0, 0, // node 3: up is node 1
+    0x52, 0, 2, 4, 0, // kind 0's dial:
+    0x22, 1, 0x30, 0x10, // own of this node
+    0x52, 1, 2, 25, 0, // kind 1's dial: IF equal(own)(0) THEN up.dial ELSE own
+    0x20, 0x21, 0x21, 0x14, 1, 0x22, 1, 0x30, 0x10, 0x12, 0, 0, 0, 0, //
+    0x22, 2, 0x22, 0, 0x30, 0x10, 0x10, //
+    0x22, 1, 0x30, 0x10, //
+    0x46, 2, 4, 0, // kind 2's forward:
+    0x22, 0, 0x30, 0x10, // up of this node
+    0x5A,
 ];
 const D: [u8; 6] = [0x22, 2, 0x13, 1, 0, 0x10];
 const DIAL_2: [u8; 6] = [0x22, 2, 0x13, 2, 0, 0x10];
@@ -94,15 +116,16 @@ fn l2_l3_and_l5_to_l13() {
     }
 }
 
+/// The tally of some steps of up, own and dial, AppApp, and CondTrue with CondFalse. No other row has any.
+fn tally([up, own, dial, applications, conditions]: [u64; 5]) -> [u64; 34] {
+    let mut rows = [0; 34];
+    rows[..3].copy_from_slice(&[up, own, dial]);
+    rows[32..].copy_from_slice(&[applications, conditions]);
+    rows
+}
+
 #[test]
 fn the_tallies_of_l1_to_l13() {
-    // The steps of up, own and dial, AppApp, and CondTrue with CondFalse. No other row has any.
-    let tally = |[up, own, dial, applications, conditions]: [u64; 5]| {
-        let mut rows = [0; 34];
-        rows[..3].copy_from_slice(&[up, own, dial]);
-        rows[32..].copy_from_slice(&[applications, conditions]);
-        rows
-    };
     // L1, and L4 in the store that it left.
     let mut store = [0; 12 * 1_024];
     let l1 = ask(&SHEET_L, &mut store, 0, &D, MOST);
@@ -190,6 +213,132 @@ fn plain_saiga_comes_to_a_circle_where_it_runs_for_ever() {
     }
 }
 
+/// What an attribute of a node of sheet LF brings from an empty store: type, value, steps, the steps of up, own and dial, AppApp, and CondTrue with
+/// CondFalse, and the entries left, each node, attribute, type and value, which fits into two bytes.
+struct OfLf {
+    attribute: u8,
+    node: u8,
+    typ: i64,
+    value: i64,
+    rows: [u64; 5],
+    left: &'static [(u8, u8, u8, u16)],
+}
+
+/// Every question of sheet LF. The forwarded ones are own and dial of node 3: that of node 1, with two steps more.
+const QUESTIONS_LF: [OfLf; 12] = {
+    const fn row(
+        [attribute, node]: [u8; 2],
+        [typ, value]: [i64; 2],
+        rows: [u64; 5],
+        left: &'static [(u8, u8, u8, u16)],
+    ) -> OfLf {
+        OfLf {
+            attribute,
+            node,
+            typ,
+            value,
+            rows,
+            left,
+        }
+    }
+    [
+        row([0, 0], [3, 65_535], [1, 0, 0, 0, 0], &[(0, 0, 3, 65_535)]),
+        row([0, 1], [3, 0], [1, 0, 0, 0, 0], &[(1, 0, 3, 0)]),
+        row([0, 2], [3, 0], [1, 0, 0, 0, 0], &[(2, 0, 3, 0)]),
+        row([0, 3], [3, 1], [1, 0, 0, 0, 0], &[(3, 0, 3, 1)]),
+        row([1, 0], [2, 700], [0, 1, 0, 0, 0], &[(0, 1, 2, 700)]),
+        row([1, 1], [2, 0], [0, 1, 0, 0, 0], &[(1, 1, 2, 0)]),
+        row([1, 2], [2, 811], [0, 1, 0, 0, 0], &[(2, 1, 2, 811)]),
+        row(
+            [1, 3],
+            [2, 0],
+            [1, 2, 0, 0, 0],
+            &[(3, 0, 3, 1), (1, 1, 2, 0), (3, 1, 2, 0)],
+        ),
+        row(
+            [2, 0],
+            [2, 700],
+            [0, 1, 1, 0, 0],
+            &[(0, 1, 2, 700), (0, 2, 2, 700)],
+        ),
+        row(
+            [2, 1],
+            [2, 700],
+            [1, 2, 2, 2, 1],
+            &[
+                (1, 1, 2, 0),
+                (1, 0, 3, 0),
+                (0, 1, 2, 700),
+                (0, 2, 2, 700),
+                (1, 2, 2, 700),
+            ],
+        ),
+        row(
+            [2, 2],
+            [2, 811],
+            [0, 2, 1, 2, 1],
+            &[(2, 1, 2, 811), (2, 2, 2, 811)],
+        ),
+        row(
+            [2, 3],
+            [2, 700],
+            [2, 2, 3, 2, 1],
+            &[
+                (3, 0, 3, 1),
+                (1, 1, 2, 0),
+                (1, 0, 3, 0),
+                (0, 1, 2, 700),
+                (0, 2, 2, 700),
+                (1, 2, 2, 700),
+                (3, 2, 2, 700),
+            ],
+        ),
+    ]
+};
+
+#[test]
+fn every_question_of_sheet_lf() {
+    for OfLf {
+        attribute,
+        node,
+        typ,
+        value,
+        rows,
+        left,
+    } in QUESTIONS_LF
+    {
+        let question = [0x22, attribute, 0x13, node, 0, 0x10];
+        let steps = rows.iter().sum::<u64>();
+        let entries: Vec<u8> = left
+            .iter()
+            .flat_map(|&(node, attribute, code, value)| {
+                let [low, high] = value.to_le_bytes();
+                [node, 0, attribute, code, 0, 0, 0, 0, low, high, 0, 0]
+            })
+            .collect();
+        let mut store = [0xEE; 12 * 1_024];
+        let answer = ask(&SHEET_LF, &mut store, 0, &question, steps);
+        let kept = left.len() as i64;
+        let fields = [0, 0, typ, value, steps as i64, kept];
+        assert_eq!(answer.fields(), fields, "{question:?}");
+        assert_eq!(answer.tally, tally(rows), "{question:?}");
+        assert_eq!(store[..entries.len()], entries, "{question:?}");
+        assert!(store[entries.len()..].iter().all(|byte| *byte == 0xEE));
+        // Plain Saiga keeps nothing. All that is due twice is node 2's own, a figure: one step, kept or not.
+        let plain = watched(&SHEET_LF, &question, 1_000);
+        assert_eq!(plain.circle, None);
+        let Ending::Value(plain, n) = plain.ending else {
+            panic!("{question:?}: {plain:?}");
+        };
+        assert_eq!((plain.number(), n), (value, steps), "{question:?}");
+        // One step fewer, and nothing for the occurrence that is asked.
+        let answer = ask(&SHEET_LF, &mut store, 0, &question, steps - 1);
+        let stopped = [15, 0, 0, 0, steps as i64 - 1];
+        assert_eq!(answer.fields()[..5], stopped, "{question:?}");
+        assert!(answer.kept < kept, "{question:?}");
+    }
+}
+
 #[test]
 fn a_stop_of_each_origin_has_its_number_and_place() {
     // Node 2's own is said twice.
@@ -200,6 +349,9 @@ fn a_stop_of_each_origin_has_its_number_and_place() {
     let no_node = &mut [3, 0, 1, 0, 0, 0, 0, 0, 0, 0, 0, 0];
     let given = ask(&SHEET_L, no_node, 1, &D, MOST).fields();
     assert_eq!(given, [10, 0, 0, 0, 0, 1]);
+    // Kind 2's forward is said twice.
+    let twice = [&SHEET_LF[..120], &SHEET_LF[112..]].concat();
+    assert_eq!(asked(&twice, 0, &D, MOST), [5, 120, 0, 0, 0, 0]);
     assert_eq!(asked(&SHEET_L, 0, &D, MOST + 1), [11, 0, 0, 0, 0, 0]);
     assert_eq!(asked(&SHEET_L, 0, &[0x30], MOST), [12, 0, 0, 0, 0, 0]);
     assert_eq!(asked(&SHEET_L, 0, &[0x14, 0], MOST), [13, 0, 0, 0, 0, 0]);

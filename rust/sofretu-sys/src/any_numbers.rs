@@ -121,11 +121,12 @@ fn down(attribute: u8, at_1: &[u8]) -> Vec<u8> {
 
 #[test]
 fn a_run_goes_by_no_number_that_it_did_not_write() {
-    // Attribute 0 of k opens k forms and is 1. Attribute 1 opens as many and then asks for that of 40 again.
+    // Attribute 0 of k opens k forms and is 1. Attribute 1 opens as many and then asks for that of 40 again. Node 1 forwards to node 0, in a form more.
     let sheet = [
-        &[0x41, 2, 2, 0x41, 2, 2, 0x4e, 0][..],
+        &[0x41, 2, 2, 0x41, 2, 2, 0x4e, 0, 0x4e, 1][..],
         &down(0, &[0x12, 1, 0, 0, 0]),
         &down(1, &[0x22, 1, 0x30, 0x12, 40, 0, 0, 0]),
+        &[0x46, 1, 3, 0, 0x13, 0, 0],
         &[0x5a],
     ]
     .concat();
@@ -144,16 +145,19 @@ fn a_run_goes_by_no_number_that_it_did_not_write() {
             };
         }
         // The memory stays as each question leaves it.
-        for (attribute, k, expected) in [
-            (0, 64, [0, 0, 2, 1, 382, 0]),
-            (1, 40, [20, 0, 0, 0, 238, 0]),
-            (0, 65, [16, 0, 0, 0, 384, 0]),
-            (1, 30, [20, 0, 0, 0, 238, 0]),
-            (0, 64, [0, 0, 2, 1, 382, 0]),
+        for (node, attribute, k, expected) in [
+            (0, 0, 64, [0, 0, 2, 1, 382, 0]),
+            (0, 1, 40, [20, 0, 0, 0, 238, 0]),
+            (1, 0, 63, [0, 0, 2, 1, 377, 0]),
+            (0, 0, 65, [16, 0, 0, 0, 384, 0]),
+            (1, 1, 40, [20, 0, 0, 0, 239, 0]),
+            (1, 0, 64, [16, 0, 0, 0, 379, 0]),
+            (0, 1, 30, [20, 0, 0, 0, 238, 0]),
+            (0, 0, 64, [0, 0, 2, 1, 382, 0]),
         ] {
             let call = Call {
                 sheet: &sheet,
-                question: &[0x22, attribute, 0x13, 0, 0, 0x12, k, 0, 0, 0],
+                question: &[0x22, attribute, 0x13, node, 0, 0x12, k, 0, 0, 0],
                 store: &mut [],
                 kept: 0,
                 budget: 1_000_000,
@@ -165,7 +169,7 @@ fn a_run_goes_by_no_number_that_it_did_not_write() {
                 &mut run,
                 &mut [0; 34],
             );
-            assert_eq!(answer, expected, "{fill} {attribute} {k}");
+            assert_eq!(answer, expected, "{fill} {node} {attribute} {k}");
         }
     }
 }

@@ -24,7 +24,7 @@ pub type Fields = [i64; 6];
 pub type Found = (u32, u64);
 
 /// How many words a checked sheet has.
-const SHEET: usize = 33_282;
+const SHEET: usize = 33_298;
 /// How many bytes are noted of a sheet.
 const NOTES: usize = 65_536;
 /// How many words a checked store has.

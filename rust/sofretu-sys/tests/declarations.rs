@@ -92,28 +92,40 @@ impl Sizes {
         Sizes(sizes)
     }
 
-    /// A number, a name, or sums, products and quotients of these; sums and quotients in brackets.
+    /// A number, a name, or sums, products and quotients of these, in brackets or not.
     fn value(&self, text: &str) -> usize {
-        if let Some((inner, rest)) = text.strip_prefix('(').and_then(|t| t.split_once(") * ")) {
-            return self.value(inner) * self.value(rest);
+        if let Some((left, _, right)) = last_sign(text, &['+']) {
+            return self.value(left) + self.value(right);
+        }
+        match last_sign(text, &['*', '/']) {
+            Some((left, '*', right)) => return self.value(left) * self.value(right),
+            Some((left, _, right)) => return self.value(left) / self.value(right),
+            None => {}
         }
         if let Some(inner) = text.strip_prefix('(').and_then(|t| t.strip_suffix(')')) {
             return self.value(inner);
-        }
-        if let Some((left, right)) = text.split_once(" + ") {
-            return self.value(left) + self.value(right);
-        }
-        if let Some((left, right)) = text.split_once(" * ") {
-            return self.value(left) * self.value(right);
-        }
-        if let Some((left, right)) = text.split_once(" / ") {
-            return self.value(left) / self.value(right);
         }
         match self.0.get(text) {
             Some(value) => self.value(value),
             None => text.parse().unwrap_or_else(|_| panic!("{text} is no size")),
         }
     }
+}
+
+/// The last of some signs that stands in no brackets, between what stands before and after it.
+fn last_sign<'t>(text: &'t str, signs: &[char]) -> Option<(&'t str, char, &'t str)> {
+    let mut depth = 0;
+    for (at, sign) in text.char_indices().rev() {
+        match sign {
+            ')' => depth += 1,
+            '(' => depth -= 1,
+            _ if depth == 0 && signs.contains(&sign) => {
+                return Some((text[..at].trim(), sign, text[at + 1..].trim()));
+            }
+            _ => {}
+        }
+    }
+    None
 }
 
 fn rattle() -> Calls {
@@ -241,6 +253,20 @@ fn result(rest: &str) -> String {
 }
 
 #[test]
+fn sizes_are_worked_out_products_before_sums() {
+    let named = [("LAST", "15"), ("ROWS", "(LAST + 1) * 32")];
+    let sizes = Sizes(named.map(|(name, text)| (name.into(), text.into())).into());
+    for (text, value) in [
+        ("ROWS + LAST + 1", 528),
+        ("(LAST + 1) * 32 + LAST + 1", 528),
+        ("2 * ROWS / 4 + 3 * 2", 262),
+        ("(64 + 1) * (256 / 2)", 8_320),
+    ] {
+        assert_eq!(sizes.value(text), value, "{text}");
+    }
+}
+
+#[test]
 fn rust_and_c_declare_the_same_calls() {
     let rust = rust();
     assert_eq!(rust.len(), 6);
@@ -251,7 +277,7 @@ fn rust_and_c_declare_the_same_calls() {
         [
             "*const u8",
             "u64",
-            "*mut [u16; 33282]",
+            "*mut [u16; 33298]",
             "*mut [u8; 65536]",
             "*mut [u64; 3]"
         ]

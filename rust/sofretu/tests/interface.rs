@@ -128,6 +128,79 @@ fn an_equation_that_needs_its_own_value_is_a_circle() {
     );
 }
 
+/// The attribute of `ONE_MORE` and an attribute that is a node. Node 0 has the rule; nodes 1 and 2 are of kind 1, which forwards to the node that they
+/// lead to: node 0, and null.
+const FORWARDED: [u8; 60] = [
+    0x41, 2, 2, 0x41, 3, 0, // the attributes
+    0x4E, 0, 0x4E, 1, 0x4E, 1, // the nodes
+    0x56, 0, 0, 1, 0xFF, 0xFF, 0, 0, // node 0 leads to null,
+    0x56, 1, 0, 1, 0, 0, 0, 0, // node 1 to node 0,
+    0x56, 2, 0, 1, 0xFF, 0xFF, 0, 0, // node 2 to null
+    0x46, 1, 4, 0, 0x22, 1, 0x30, 0x10, // kind 1's forward
+    0x52, 0, 0, 10, 0, 0x21, 0x21, 0x14, 4, 0x31, 0x12, 1, 0, 0, 0, // the rule
+    0x5A,
+];
+
+#[test]
+fn a_kind_that_forwards_has_the_figures_of_another_node() {
+    let sheet = Sheet::check(&FORWARDED).expect("an accepted sheet");
+    assert_eq!((sheet.attributes(), sheet.nodes()), (2, 3));
+    let mut store = Store::with_capacity(8);
+    let mut session = Session::open(&sheet, &mut store).expect("an empty store");
+    let after = |node: u8, parameter: u8| [0x22, 0, 0x13, node, 0, 0x12, parameter, 0, 0, 0];
+    // The attribute of both nodes, the one that node 1 leads by, and the two of add.
+    let answer = session.ask(&after(1, 5), MOST_STEPS);
+    assert_eq!(answer.to_string(), "0 0 2 6 5 3");
+    let tally = "5 steps: 2 of attribute 0, 1 of attribute 1, 2 applications";
+    assert_eq!(answer.tally().to_string(), tally);
+    // Both are kept, the inner one first.
+    let entry = |node, attribute, parameter, value| {
+        Ok(Entry {
+            node,
+            attribute,
+            parameter,
+            value,
+        })
+    };
+    let kept = [
+        entry(1, 1, 0, Value::Node(Some(0))),
+        entry(0, 0, 5, Value::Int(6)),
+        entry(1, 0, 5, Value::Int(6)),
+    ];
+    assert!(session.store().entries().eq(kept));
+    assert_eq!(session.ask(&after(1, 5), MOST_STEPS).steps(), 1);
+    assert_eq!(session.ask(&after(0, 5), MOST_STEPS).steps(), 1);
+    // Node 2 leads nowhere: its own step is counted, and nothing is kept for it.
+    let answer = session.ask(&after(2, 5), MOST_STEPS);
+    assert_eq!(answer.to_string(), "14 0 0 0 2 4");
+}
+
+#[test]
+fn a_faulty_forward_is_refused_at_its_place() {
+    // The forward is at offset 36, and has its kind and its expression behind it.
+    let refusal = |at: usize, byte: u8| {
+        let mut sheet = FORWARDED;
+        sheet[at] = byte;
+        Sheet::check(&sheet).expect_err("a refused sheet")
+    };
+    for (at, byte, stop, place) in [
+        (37, 16, Stop::Operand, 36),
+        (38, 0, Stop::RuleForm, 36),
+        (42, 0x31, Stop::RuleForm, 36),
+        (43, 0x30, Stop::RuleType, 36),
+        // Node 1 without a forward of its kind has no attribute 0.
+        (37, 2, Stop::NoDefinition, 32),
+    ] {
+        assert_eq!(refusal(at, byte), Refusal { stop, place }, "{at} {byte}");
+    }
+    let again = [&FORWARDED[..44], &FORWARDED[36..]].concat();
+    let refusal = Sheet::check(&again).expect_err("a second forward");
+    assert_eq!(
+        refusal.to_string(),
+        "stop 5 at byte 44: a second figure for one node and attribute, a second rule for one kind and attribute, or a second forward for one kind"
+    );
+}
+
 #[test]
 fn a_refused_question_leaves_the_session_as_it_was() {
     let sheet = Sheet::check(&ONE_MORE).expect("an accepted sheet");

@@ -13,6 +13,7 @@ use crate::compare::{adds_up, shown, Counts};
 use crate::demand3::{demand3, PLAIN_LIMIT};
 use crate::engine::Engine;
 use crate::soak::soak;
+use crate::written_out::as_rules;
 
 /// An engine and what it is called in messages.
 pub type Named<'e> = (&'static str, &'e mut dyn Engine);
@@ -74,7 +75,8 @@ pub fn run(
     }
 }
 
-/// Shows each list of a file with the engines' answers, and plain Saiga's endings and circles, and tries demand 3 on it.
+/// Shows each list of a file with the engines' answers, and plain Saiga's endings and circles, and tries demand 3 on it, and forwards beside rules in
+/// their place.
 pub fn replay(engines: &mut [Named], file: &str) -> Result<(), String> {
     let mut bad = 0;
     for listed in lists(file)? {
@@ -108,6 +110,10 @@ pub fn replay(engines: &mut [Named], file: &str) -> Result<(), String> {
             if let Err(violation) = demand3(*engine, case) {
                 bad += 1;
                 println!("{name}: {violation}");
+            }
+            if let Err(differs) = as_rules(*engine, case) {
+                bad += 1;
+                println!("{name}: {differs}");
             }
         }
     }

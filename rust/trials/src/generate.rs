@@ -6,10 +6,14 @@
 //!   due inside 64 forms. The attributes that matter have any numbers from 0 to 31, so that their steps are in every row of the tally.
 //! - `circles.rs`: sheets and questions with attributes that need themselves, over one attribute or several, one node or many, with the same parameter or
 //!   one that changes and comes back; in every place of a rule; inside up to 64 forms and more; and some that a figure or a parameter ends.
+//! - `forwards.rs`: sheets and questions with attributes that are forwarded, over chains of several kinds and more than 64 nodes, ways that meet, lead
+//!   back or break off on null, with parameters of every type, from kinds with nothing else and from kinds with rules and figures besides; and
+//!   forwards put onto one sheet in five of most other families.
 //! - `sums.rs`: sheets and questions with sums at both ends of Int and beyond them, due in every place of a rule, and attributes that climb to an
 //!   end.
 //! - `collisions.rs`: sheets, questions and stores with keys that fall into one bucket of the store's index, and along its longest path.
-//! - `faults.rs`: sheets that are damaged byte by byte, mangled command by command, ill typed, ill formed or incomplete.
+//! - `faults.rs`: sheets that are damaged byte by byte, mangled command by command, ill typed, ill formed or incomplete, and faults of each kind in a
+//!   forward.
 //! - `draft.rs`: values, among them Ints at both ends.
 //! - `questions.rs` and `writer.rs`: questions of every type and shape, and refused ones, which stand among the others in a list.
 //! - `stores.rs`: first stores of every capacity, new, left over from earlier questions, wrong in their values, corrupted or misshapen.
@@ -19,6 +23,7 @@ mod circles;
 mod collisions;
 mod draft;
 mod faults;
+mod forwards;
 mod questions;
 mod rng;
 mod sheets;
@@ -44,6 +49,7 @@ pub fn case(seed: u64, number: u64) -> Case {
         0 => faults::mangled(rng, &draft),
         1 => faults::damaged(rng, draft.bytes()),
         2 | 3 => faults::spoilt(rng, draft.clone()).bytes(),
+        4 => faults::in_a_forward(rng, draft.clone()),
         _ => draft.bytes(),
     };
     let case = match Sheet::read(&sheet) {

@@ -12,9 +12,11 @@ pub mod demand3;
 pub mod engine;
 pub mod examples;
 pub mod generate;
+mod pieces;
 pub mod shrink;
 pub mod soak;
 pub mod write;
+pub mod written_out;
 
 pub use calls::Call;
 pub use case::{Ask, Case};
@@ -22,3 +24,4 @@ pub use compare::compare;
 pub use demand3::demand3;
 pub use engine::{Engine, Oracle};
 pub use oracle::Answer;
+pub use written_out::as_rules;

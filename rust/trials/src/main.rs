@@ -3,7 +3,7 @@
 use std::process::ExitCode;
 
 use trials::commands::{self, replay, run, vectors};
-use trials::{demand3, Oracle};
+use trials::{as_rules, demand3, Oracle};
 
 const USAGE: &str = "usage: trials vectors FILE | self CASES SEED | replay FILE";
 
@@ -13,7 +13,10 @@ fn main() -> ExitCode {
         ["vectors", file] => vectors(&mut [("the oracle", &mut oracle)], file),
         ["self", cases, seed] => match (cases.parse(), seed.parse()) {
             (Ok(cases), Ok(seed)) => run(cases, seed, |case| {
-                demand3(&mut oracle, case).map_err(|violation| violation.to_string())
+                let tried = demand3(&mut oracle, case);
+                let mut counts = tried.map_err(|violation| violation.to_string())?;
+                counts.add(&as_rules(&mut oracle, case)?);
+                Ok(counts)
             }),
             _ => Err(USAGE.into()),
         },

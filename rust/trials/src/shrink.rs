@@ -1,12 +1,10 @@
 //! Smaller cases with the same failing.
 
-mod pieces;
-
 use oracle::ask::MOST_STEPS;
 use oracle::store::ENTRY;
 
 use crate::case::Case;
-use pieces::{commands, parts, LEAVES};
+use crate::pieces::{before_expression, commands, parts, LEAVES};
 
 /// How often a smaller case is tried, for the sake of time.
 const MOST_ATTEMPTS: usize = 20_000;
@@ -27,7 +25,7 @@ pub fn shrink(case: Case, fails: impl FnMut(&Case) -> bool) -> Case {
         shrinking.shorten_store();
         shrinking.drop_entries();
         shrinking.shorten_questions();
-        shrinking.shorten_rules();
+        shrinking.shorten_rules_and_forwards();
         shrinking.lower_budgets();
         if shrinking.best == before {
             return before;
@@ -127,18 +125,17 @@ impl<F: FnMut(&Case) -> bool> Shrinking<F> {
         }
     }
 
-    fn shorten_rules(&mut self) {
-        const BEFORE_EXPRESSION: usize = 5;
+    fn shorten_rules_and_forwards(&mut self) {
         for place in 0..commands(&self.best.sheet).len() {
             let written = commands(&self.best.sheet);
-            if written[place][0] != 0x52 || written[place].len() < BEFORE_EXPRESSION {
+            let Some(front) = before_expression(&written[place]) else {
                 continue;
-            }
-            let expression = written[place][BEFORE_EXPRESSION..].to_vec();
+            };
+            let expression = written[place][front..].to_vec();
             self.shorten(expression, |case, shorter| {
                 let mut written = commands(&case.sheet);
                 let length = (shorter.len() as u16).to_le_bytes();
-                written[place].truncate(BEFORE_EXPRESSION - 2);
+                written[place].truncate(front - 2);
                 written[place].extend(length);
                 written[place].extend(shorter);
                 case.sheet = written.concat();
@@ -220,6 +217,8 @@ fn lower(most: u64, mut still: impl FnMut(u64) -> bool) {
 mod tests {
     use super::*;
     use crate::case::Ask;
+    use crate::write::*;
+    use oracle::sheet::Sheet;
 
     #[test]
     fn a_failing_case_shrinks_to_what_makes_it_fail() {
@@ -253,6 +252,33 @@ mod tests {
                 kept: 2,
                 asks: vec![ask(77, 13)],
             }
+        );
+    }
+
+    #[test]
+    fn the_expressions_of_rules_and_forwards_are_shortened() {
+        let long = |leaf: &[u8]| if_else(&TRUE, leaf, &NULL);
+        let sheet = |long: &dyn Fn(&[u8]) -> Vec<u8>| {
+            let parts = [
+                attribute(NODE_TYPE, UNIT_TYPE),
+                forward(3, &long(&THIS)),
+                rule(3, 0, &long(&THIS)),
+                end(),
+            ];
+            parts.concat()
+        };
+        let case = Case {
+            sheet: sheet(&long),
+            ..Case::default()
+        };
+        let fails = |case: &Case| {
+            let heads: Vec<u8> = commands(&case.sheet).iter().map(|each| each[0]).collect();
+            Sheet::read(&case.sheet).is_ok() && heads == [0x41, 0x46, 0x52, 0x5A]
+        };
+        assert!(fails(&case));
+        assert_eq!(
+            shrink(case, fails).sheet,
+            sheet(&|leaf: &[u8]| leaf.to_vec())
         );
     }
 

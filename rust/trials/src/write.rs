@@ -1,4 +1,4 @@
-//! The bytes of commands, expressions and entries, and sheet L.
+//! The bytes of commands, expressions and entries, and sheets L and LF.
 
 /// Type codes.
 pub const UNIT_TYPE: u8 = 0;
@@ -23,10 +23,17 @@ pub fn figure(node: u16, attribute: u8, value: i32) -> Vec<u8> {
 }
 
 pub fn rule(kind: u8, attribute: u8, expr: &[u8]) -> Vec<u8> {
-    let mut command = vec![0x52, kind, attribute];
-    command.extend((expr.len() as u16).to_le_bytes());
-    command.extend(expr);
-    command
+    with_expression(&[0x52, kind, attribute], expr)
+}
+
+pub fn forward(kind: u8, expr: &[u8]) -> Vec<u8> {
+    with_expression(&[0x46, kind], expr)
+}
+
+/// A command that ends in the length of an expression and the expression.
+fn with_expression(front: &[u8], expr: &[u8]) -> Vec<u8> {
+    let length = (expr.len() as u16).to_le_bytes();
+    [front, &length, expr].concat()
 }
 
 pub fn end() -> Vec<u8> {
@@ -99,10 +106,25 @@ pub const UP: u8 = 0;
 pub const OWN: u8 = 1;
 pub const DIAL: u8 = 2;
 
+/// This node's up.
+pub fn this_up() -> Vec<u8> {
+    of(&THIS, UP, &UNIT)
+}
+
 /// Sheet L.
 pub fn sheet_l() -> Vec<u8> {
+    l_with(&[], &[], &[])
+}
+
+/// Sheet LF: sheet L and node 3 of kind 2, whose up is node 1, with a forward to this node's up for that kind.
+pub fn sheet_lf() -> Vec<u8> {
+    l_with(&node(2), &figure(3, UP, 1), &forward(2, &this_up()))
+}
+
+/// Sheet L with further nodes, figures and rules, each after its own.
+pub fn l_with(nodes: &[u8], figures: &[u8], rules: &[u8]) -> Vec<u8> {
     let own = of(&THIS, OWN, &UNIT);
-    let inherited = of(&of(&THIS, UP, &UNIT), DIAL, &UNIT);
+    let inherited = of(&this_up(), DIAL, &UNIT);
     let dial = if_else(&binary(EQUAL, &own, &int(0)), &inherited, &own);
     [
         attribute(NODE_TYPE, UNIT_TYPE),
@@ -111,14 +133,17 @@ pub fn sheet_l() -> Vec<u8> {
         node(0),
         node(1),
         node(1),
+        nodes.to_vec(),
         figure(0, UP, 65_535),
         figure(0, OWN, 700),
         figure(1, UP, 0),
         figure(1, OWN, 0),
         figure(2, UP, 0),
         figure(2, OWN, 811),
+        figures.to_vec(),
         rule(0, DIAL, &own),
         rule(1, DIAL, &dial),
+        rules.to_vec(),
         end(),
     ]
     .concat()

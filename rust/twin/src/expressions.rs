@@ -1,4 +1,4 @@
-//! The form and the type of expressions (document 01, "The sheet"), read in one recursion.
+//! The form and the type of expressions (document 01, "The sheet"; document 02, F-7), read in one recursion.
 
 use crate::bytes::two;
 use crate::values::{Base, NULL};
@@ -68,7 +68,9 @@ pub struct Scope<'a> {
     pub sheet: &'a [u8],
     pub attributes: usize,
     pub nodes: usize,
-    /// The type of 0x31 in a rule; `None` in a question, which has neither 0x30 nor 0x31.
+    /// Whether 0x30 can stand: in a rule or forward.
+    pub this_node: bool,
+    /// The type of 0x31, where it can stand: in a rule.
     pub parameter: Option<Base>,
 }
 
@@ -134,7 +136,7 @@ impl Scope<'_> {
                 let (parameter, rest) = self.read(rest, widths)?;
                 Some((self.attribute(*attribute, node, parameter), rest))
             }
-            0x30 => self.parameter.map(|_| (Type::NODE, rest)),
+            0x30 => self.this_node.then_some((Type::NODE, rest)),
             0x31 => self.parameter.map(|base| (Type::base(base), rest)),
             _ => None,
         }

@@ -101,7 +101,7 @@ fn check_question(
         return Err(Stop::Budget.into());
     }
     let typ = sheet
-        .scope(None)
+        .question_scope()
         .read_whole(question, widths)
         .ok_or(Stop::QuestionForm)?;
     if !typ.is_base() {

@@ -1,5 +1,5 @@
-//! The frame machine (document 01, "The steps", with stops 14 to 16; document 02, F-4 and F-9, with stops 17 and 20): heads are read until one is
-//! a value, and values are given to frames until one has an expression to step.
+//! The frame machine (document 01, "The steps", with stops 14 to 16; document 02, F-4, F-7 and F-9, with stops 17 and 20): heads are read until one
+//! is a value, and values are given to frames until one has an expression to step.
 
 use calls::index::Key;
 use calls::tally::{APPLICATIONS, ATTRIBUTES, CONDITIONS};
@@ -15,7 +15,8 @@ use crate::values::{Function, Value, NULL};
 
 /// How many forms can be open.
 pub const MOST_OPEN: usize = 64;
-/// A question and each open form has a frame for every two of its bytes at most.
+/// A question has a frame for every two of its bytes at most. So has what an open form stands around, with its own frames: two frames inside an
+/// expression take five bytes of it.
 const MOST_FRAMES: usize = LONGEST / 2 * (1 + MOST_OPEN);
 
 /// What waits for a value.
@@ -33,8 +34,10 @@ pub enum Frame {
     Node { attribute: u8 },
     /// An attribute, for its parameter.
     Parameter { attribute: u8, node: u16 },
-    /// The innermost open form, for the value of its rule.
+    /// The innermost open form, for the value of its rule, or of the attribute that its forward leads to.
     Form,
+    /// The innermost open form, for the value of its forward.
+    Forward,
 }
 
 /// An open form: its occurrence, the link that the search for it in the store gave, and the offset to go on from in the piece around it.
@@ -247,37 +250,54 @@ fn evaluate(
                             budget.count(row)?;
                             result.value(kept)
                         }
-                        Found::Nothing(free) => match sheet.definition(node, attribute) {
-                            Definition::Figure(figure) => {
-                                // Its form closes at once, and so is never open around a part.
-                                budget.count_inside(open, row)?;
-                                let figure = result.value(figure);
-                                store.append(free, key, figure);
-                                figure
-                            }
-                            Definition::Rule(start) => {
-                                if occurrences.has(open, key) {
-                                    return Err(Stop::Circle);
+                        Found::Nothing(free) => {
+                            let (frame, start) = match sheet.definition(node, attribute) {
+                                Definition::Figure(figure) => {
+                                    // Its form closes at once, and so is never open around a part.
+                                    budget.count_inside(open, row)?;
+                                    value = result.value(figure);
+                                    store.append(free, key, value);
+                                    height = top;
+                                    continue;
                                 }
-                                budget.count_inside(open, row)?;
-                                forms[open] = Form {
-                                    node,
-                                    attribute,
-                                    parameter: value,
-                                    free: free as u16,
-                                    back: at,
-                                };
-                                occurrences.open(open, key);
-                                open += 1;
-                                frames[top] = Frame::Form;
-                                piece = sheet.bytes;
-                                widths = &sheet.index.widths;
-                                at = start;
-                                break;
+                                Definition::Rule(start) => (Frame::Form, start),
+                                Definition::Forward(start) => (Frame::Forward, start),
+                            };
+                            if occurrences.has(open, key) {
+                                return Err(Stop::Circle);
                             }
-                        },
+                            budget.count_inside(open, row)?;
+                            forms[open] = Form {
+                                node,
+                                attribute,
+                                parameter: value,
+                                free: free as u16,
+                                back: at,
+                            };
+                            occurrences.open(open, key);
+                            open += 1;
+                            frames[top] = frame;
+                            piece = sheet.bytes;
+                            widths = &sheet.index.widths;
+                            at = start;
+                            break;
+                        }
                     };
                     height = top;
+                }
+                Frame::Forward => {
+                    // The same attribute of the node that the form's forward leads to, with the form's parameter, is due.
+                    let Value::Node(node) = value else {
+                        unreachable!("ill typed")
+                    };
+                    let form = &forms[open - 1];
+                    frames[top] = Frame::Form;
+                    frames[height] = Frame::Parameter {
+                        attribute: form.attribute,
+                        node,
+                    };
+                    height += 1;
+                    value = form.parameter;
                 }
                 Frame::Form => {
                     open -= 1;

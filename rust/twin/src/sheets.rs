@@ -1,4 +1,6 @@
-//! The check of a sheet (stops 1 to 8) and the index that it fills; the look-up of a definition.
+//! The check of a sheet (stops 1 to 8) and the index that it fills; the look-up of a definition. Document 02, F-7, has the forwards.
+
+use core::ops::Range;
 
 use calls::{Refusal, Stop};
 
@@ -12,12 +14,14 @@ const MOST_NODES: usize = 1_024;
 const KINDS: usize = 16;
 /// Where the rules' part of the places starts.
 const RULES: usize = MOST_NODES * MOST_ATTRIBUTES;
-const PLACES: usize = RULES + KINDS * MOST_ATTRIBUTES;
+/// Where the forwards' part starts.
+const FORWARDS: usize = RULES + KINDS * MOST_ATTRIBUTES;
+const PLACES: usize = FORWARDS + KINDS;
 
 /// What the check of a sheet notes.
 pub struct Index {
-    /// Where each figure stands, at node × 32 + attribute, and each rule, at 32,768 + kind × 32 + attribute: the offset of its
-    /// command and one, or 0.
+    /// Where each figure stands, at node × 32 + attribute, each rule, at 32,768 + kind × 32 + attribute, and each forward, at
+    /// 33,280 + kind: the offset of its command and one, or 0.
     places: [u16; PLACES],
     /// The width of each expression less one, at the offset of its first byte.
     pub widths: [u8; LONGEST_SHEET],
@@ -45,9 +49,11 @@ pub enum Definition {
     Figure(u32),
     /// The offset of the rule's expression.
     Rule(usize),
+    /// The offset of the forward's expression, for the attribute of its value with the same parameter.
+    Forward(usize),
 }
 
-/// The parts of a sheet in their order.
+/// The parts of a sheet in their order. The forwards stand among the rules.
 #[derive(Clone, Copy, PartialEq, Eq, PartialOrd, Ord)]
 enum Part {
     Attributes,
@@ -102,9 +108,13 @@ impl<'a> Sheet<'a> {
         let mut lowest = self.attributes;
         let mut first = None;
         for node in 0..self.nodes {
+            let kind = self.kind(node);
+            if self.index.places[FORWARDS + kind] != 0 {
+                continue;
+            }
             let row = node * MOST_ATTRIBUTES;
             let figures = &self.index.places[row..row + lowest];
-            let rules = &self.index.places[self.rules_of(node)..][..lowest];
+            let rules = &self.index.places[RULES + kind * MOST_ATTRIBUTES..][..lowest];
             let undefined = figures
                 .iter()
                 .zip(rules)
@@ -117,21 +127,23 @@ impl<'a> Sheet<'a> {
         first
     }
 
-    /// Where the rules of a node's kind start in the index.
-    fn rules_of(&self, node: usize) -> usize {
-        let kind = self.bytes[3 * self.attributes + 2 * node + 1];
-        RULES + usize::from(kind) * MOST_ATTRIBUTES
+    fn kind(&self, node: usize) -> usize {
+        usize::from(self.bytes[3 * self.attributes + 2 * node + 1])
     }
 
-    /// The definition in force for a declared pair: the figure if there is one, else the rule.
+    /// The definition in force for a declared pair: the figure if there is one, else the rule, else the forward.
     pub fn definition(&self, node: u16, attribute: u8) -> Definition {
         let node = usize::from(node);
         let figure = self.index.places[node * MOST_ATTRIBUTES + usize::from(attribute)] as usize;
         if figure != 0 {
             return Definition::Figure(four(self.bytes, figure + 3));
         }
-        let rule = self.index.places[self.rules_of(node) + usize::from(attribute)] as usize;
-        Definition::Rule(rule + 4)
+        let kind = self.kind(node);
+        let rule = RULES + kind * MOST_ATTRIBUTES + usize::from(attribute);
+        match self.index.places[rule] as usize {
+            0 => Definition::Forward(self.index.places[FORWARDS + kind] as usize + 3),
+            rule => Definition::Rule(rule + 4),
+        }
     }
 
     /// The type of an attribute's value.
@@ -144,13 +156,13 @@ impl<'a> Sheet<'a> {
         Base::of(self.bytes[3 * usize::from(attribute) + 2])
     }
 
-    /// The scope of a question, or of a rule whose parameter has a type.
-    pub fn scope(&self, parameter: Option<Base>) -> Scope<'a> {
+    pub fn question_scope(&self) -> Scope<'a> {
         Scope {
             sheet: self.bytes,
             attributes: self.attributes,
             nodes: self.nodes,
-            parameter,
+            this_node: false,
+            parameter: None,
         }
     }
 }
@@ -173,6 +185,7 @@ impl Progress<'_> {
             0x4E => (Part::Nodes, 2),
             0x56 => (Part::Figures, 8),
             0x52 => (Part::Rules, 5),
+            0x46 => (Part::Rules, 4),
             _ => return Err(Stop::Command),
         };
         let command = self.bytes.get(self.at..self.at + width);
@@ -184,6 +197,7 @@ impl Progress<'_> {
             Part::Attributes => self.attribute(command)?,
             Part::Nodes => self.node(command, index)?,
             Part::Figures => self.figure(command, index)?,
+            Part::Rules if command[0] == 0x46 => self.forward(command, index)?,
             Part::Rules => self.rule(command, index)?,
         };
         self.part = part;
@@ -229,33 +243,65 @@ impl Progress<'_> {
 
     /// The width of the rule's expression.
     fn rule(&mut self, command: &[u8], index: &mut Index) -> Result<usize, Stop> {
-        let length = usize::from(two(command, 3));
-        let start = self.at + command.len();
-        let expression = self.bytes.get(start..start + length);
-        let expression = expression.ok_or(Stop::Command)?;
+        let expression = self.expression_after(command)?;
         let kind = usize::from(command[1]);
         let attribute = usize::from(command[2]);
         if kind >= KINDS || attribute >= self.attributes {
             return Err(Stop::Operand);
         }
-        let place = &mut index.places[RULES + kind * MOST_ATTRIBUTES + attribute];
-        if *place != 0 {
+        let [result, parameter] = two(self.bytes, 3 * attribute + 1).to_le_bytes();
+        let parameter = Some(Base::of(parameter));
+        let place = RULES + kind * MOST_ATTRIBUTES + attribute;
+        self.define_by(expression, parameter, Base::of(result), place, index)
+    }
+
+    /// The width of the forward's expression.
+    fn forward(&mut self, command: &[u8], index: &mut Index) -> Result<usize, Stop> {
+        let expression = self.expression_after(command)?;
+        let kind = usize::from(command[1]);
+        if kind >= KINDS {
+            return Err(Stop::Operand);
+        }
+        self.define_by(expression, None, Base::Node, FORWARDS + kind, index)
+    }
+
+    /// Where the expression of a command stands that ends in the expression's length.
+    fn expression_after(&self, command: &[u8]) -> Result<Range<usize>, Stop> {
+        let start = self.at + command.len();
+        let end = start + usize::from(two(command, command.len() - 2));
+        match end <= self.bytes.len() {
+            true => Ok(start..end),
+            false => Err(Stop::Command),
+        }
+    }
+
+    /// The expression of a rule or forward, of a type, becomes the definition at a place of the index. Its width is given.
+    #[inline(always)]
+    fn define_by(
+        &self,
+        expression: Range<usize>,
+        parameter: Option<Base>,
+        typ: Base,
+        place: usize,
+        index: &mut Index,
+    ) -> Result<usize, Stop> {
+        if index.places[place] != 0 {
             return Err(Stop::SecondDefinition);
         }
-        let [result, parameter] = two(self.bytes, 3 * attribute + 1).to_le_bytes();
         let scope = Scope {
             sheet: self.bytes,
             attributes: self.attributes,
             nodes: self.nodes,
-            parameter: Some(Base::of(parameter)),
+            this_node: true,
+            parameter,
         };
-        let typ = scope.read_whole(expression, &mut index.widths[start..start + length]);
-        let typ = typ.ok_or(Stop::RuleForm)?;
-        if typ != Type::base(Base::of(result)) {
+        let bytes = &self.bytes[expression.clone()];
+        let found = scope.read_whole(bytes, &mut index.widths[expression]);
+        if found.ok_or(Stop::RuleForm)? != Type::base(typ) {
             return Err(Stop::RuleType);
         }
-        self.define(place)?;
-        Ok(length)
+        self.define(&mut index.places[place])?;
+        Ok(bytes.len())
     }
 
     /// The command at the offset reached becomes the definition at a place of the index.

@@ -3,7 +3,7 @@
 use Prim.Native.Nat.{_-_}
 use native.Mathlib.Omega.{arith}
 use borrow.Author.Needs.{needs}
-use Rattle.sheets.proofs.Gaps.{HasBelow, node-start, node-has-all, node-lacks, node-has}
+use Rattle.sheets.proofs.Gaps.{HasBelow, node-forwards, node-start, node-has-all, node-lacks, node-has}
 use Rattle.sheets.proofs.lowest_lacked.Statement.{statement}
 use Rattle.sheets.proofs.lowest_lacked.Tie as tie
 
@@ -21,6 +21,9 @@ lowest-lacked-spec =
     μ-loop
     (λ c κs. search needs)  -- the kind
     (λ c. search needs)
+    (λ c κs. search needs)  -- the kind's forward
+    (λ c κs. search needs)
+    (λ c. search node-forwards)
     (λ c. search node-start)
     (λ c κs. (search, search, omega arith, omega arith))  -- is_defined(index, n, k, a)
     (λ c. search node-lacks)

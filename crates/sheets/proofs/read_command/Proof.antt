@@ -1,6 +1,6 @@
 -- `sheets::read_command` meets its contract: each arm knows the command byte.
 use borrow.Author.Needs.{needs}
-use Rattle.sheets.proofs.Commands.{command-none, command-attribute, command-node, command-figure, command-rule, command-end, command-other}
+use Rattle.sheets.proofs.Commands.{command-none, command-attribute, command-node, command-figure, command-rule, command-forward, command-end, command-other}
 use Rattle.sheets.proofs.Noted.{stop-notes, attribute-notes, node-notes, figure-notes, end-notes}
 use Rattle.sheets.proofs.read_command.Statement.{statement}
 use Rattle.sheets.proofs.read_command.Tie as tie
@@ -16,6 +16,7 @@ read-command-spec =
     (λ c κs. search needs)
     (λ c κs. search needs)
     (λ c κs. search needs)
+    (λ c κs. search needs)
     (λ c. (search (command-attribute, c .read-attribute .ensures), attribute-notes _ _ _ _ _ (c .read-attribute .ensures _)))
     (λ c. search needs)
     (λ c. (search command-node, search node-notes))
@@ -24,5 +25,8 @@ read-command-spec =
     (λ c. search needs)
     (λ c. search needs)
     (λ c. (search command-rule, search needs))
+    (λ c. search needs)
+    (λ c. search needs)
+    (λ c. (search command-forward, search needs))
     (λ c. (search (command-end, c .read-end .ensures), end-notes _ _ _ _ _ (c .read-end .ensures _)))
     (λ c. (search command-other, search stop-notes)))

@@ -15,8 +15,14 @@ enum { STACK = 512 * 1024, PATTERN = 0xA5, LONGEST = 256, BUDGET = 1000 };
 static const uint8_t chain[] = {0x41, 0,    2,    0x4E, 0, 0x52, 0,    0, 13, 0, 0x22, 0,
                                 0x30, 0x21, 0x21, 0x14, 4, 0x31, 0x12, 1, 0,  0, 0,    0x5A};
 
-/* The same attribute with a rule of 256 heads, each of which wants another expression. */
-static uint8_t deep[10 + LONGEST + 1] = {0x41, 0, 2, 0x4E, 0, 0x52, 0, 0, 0, 1};
+/* The same attribute with a rule of 256 heads, each of which wants another expression, and with such a forward. */
+static uint8_t deep_rule[10 + LONGEST + 1] = {0x41, 0, 2, 0x4E, 0, 0x52, 0, 0, 0, 1};
+static uint8_t deep_forward[9 + LONGEST + 1] = {0x41, 0, 2, 0x4E, 0, 0x46, 0, 0, 1};
+
+static const struct {
+    const uint8_t *bytes;
+    uint64_t len;
+} deep[] = {{deep_rule, sizeof deep_rule}, {deep_forward, sizeof deep_forward}};
 
 /* Heads that each want an expression, and what asks for the attribute. */
 static uint8_t ifs[LONGEST];
@@ -40,10 +46,13 @@ static uint64_t place;
 static int64_t answer[SOFRETU_FIELDS];
 static uint64_t tally[SOFRETU_TALLY_ROWS];
 
+#define FOR_EACH_DEEP_SHEET for (size_t d = 0; d < sizeof deep / sizeof deep[0]; d++)
 #define FOR_EACH_QUESTION for (size_t q = 0; q < sizeof questions / sizeof questions[0]; q++)
 
 static void *ask(void *unused) {
-    sofretu_ask(deep, sizeof deep, first, sizeof first, store, sizeof store, 0, BUDGET, answer, tally);
+    FOR_EACH_DEEP_SHEET {
+        sofretu_ask(deep[d].bytes, deep[d].len, first, sizeof first, store, sizeof store, 0, BUDGET, answer, tally);
+    }
     FOR_EACH_QUESTION {
         sofretu_ask(chain, sizeof chain, questions[q].bytes, questions[q].len, store, sizeof store, 0, BUDGET, answer, tally);
     }
@@ -51,8 +60,10 @@ static void *ask(void *unused) {
 }
 
 static void *ask_in(void *unused) {
-    sofretu_ask_in(deep, sizeof deep, first, sizeof first, store, sizeof store, 0, BUDGET, &checked_sheet, &noted_sheet, &checked_store, &run, answer,
-                   tally);
+    FOR_EACH_DEEP_SHEET {
+        sofretu_ask_in(deep[d].bytes, deep[d].len, first, sizeof first, store, sizeof store, 0, BUDGET, &checked_sheet, &noted_sheet, &checked_store,
+                       &run, answer, tally);
+    }
     FOR_EACH_QUESTION {
         sofretu_ask_in(chain, sizeof chain, questions[q].bytes, questions[q].len, store, sizeof store, 0, BUDGET, &checked_sheet, &noted_sheet,
                        &checked_store, &run, answer, tally);
@@ -61,7 +72,9 @@ static void *ask_in(void *unused) {
 }
 
 static void *check(void *unused) {
-    sofretu_check(deep, sizeof deep, first, sizeof first, store, sizeof store, 0, BUDGET, &place);
+    FOR_EACH_DEEP_SHEET {
+        sofretu_check(deep[d].bytes, deep[d].len, first, sizeof first, store, sizeof store, 0, BUDGET, &place);
+    }
     FOR_EACH_QUESTION {
         sofretu_check(chain, sizeof chain, questions[q].bytes, questions[q].len, store, sizeof store, 0, BUDGET, &place);
     }
@@ -70,7 +83,9 @@ static void *check(void *unused) {
 
 /* The sheet that is accepted comes last, for the two calls below. */
 static void *check_sheet(void *unused) {
-    sofretu_check_sheet(deep, sizeof deep, &checked_sheet, &noted_sheet, found);
+    FOR_EACH_DEEP_SHEET {
+        sofretu_check_sheet(deep[d].bytes, deep[d].len, &checked_sheet, &noted_sheet, found);
+    }
     sofretu_check_sheet(chain, sizeof chain, &checked_sheet, &noted_sheet, found);
     return unused;
 }
@@ -102,8 +117,10 @@ static void must(int error) {
 }
 
 int main(void) {
-    memset(deep + 10, 0x20, LONGEST);
-    deep[10 + LONGEST] = 0x5A;
+    memset(deep_rule + 10, 0x20, LONGEST);
+    deep_rule[10 + LONGEST] = 0x5A;
+    memset(deep_forward + 9, 0x20, LONGEST);
+    deep_forward[9 + LONGEST] = 0x5A;
     memset(ifs, 0x20, sizeof ifs);
     memset(applications, 0x21, sizeof applications);
     for (size_t at = 0; at < sizeof attributes; at += 2) {

@@ -5,7 +5,7 @@ use oracle::values::{Base, Value};
 
 use super::collisions::Colliding;
 use super::rng::Rng;
-use crate::write::{attribute, end, figure, node, rule};
+use crate::write::{attribute, end, figure, forward, node, rule};
 
 #[derive(Clone, Default)]
 pub struct Draft {
@@ -15,10 +15,20 @@ pub struct Draft {
     pub figures: Vec<(u16, u8, Value)>,
     /// Kind, attribute, expression.
     pub rules: Vec<(u8, u8, Vec<u8>)>,
+    pub forwards: Vec<Forward>,
     /// What its questions and stores can name, where the sheet is made for it.
     pub colliding: Option<Colliding>,
     /// Questions that the sheet is made for.
     pub questions: Vec<Vec<u8>>,
+}
+
+/// A forward, which stands among the rules.
+#[derive(Clone)]
+pub struct Forward {
+    pub kind: u8,
+    pub expr: Vec<u8>,
+    /// How many rules stand before it; all of them, where there are fewer.
+    pub rules_before: usize,
 }
 
 impl Draft {
@@ -42,25 +52,52 @@ impl Draft {
         let figures = self.figures.iter().map(|(node, attribute, value)| {
             figure(*node, *attribute, i32::from_le_bytes(value.to_bytes()))
         });
-        let rules = self
-            .rules
-            .iter()
-            .map(|(kind, attribute, expr)| rule(*kind, *attribute, expr));
         attributes
             .chain(nodes)
             .chain(figures)
-            .chain(rules)
+            .chain(self.rules_and_forwards())
             .chain([end()])
             .collect()
+    }
+
+    /// The rules in their order, with each forward at its place among them.
+    fn rules_and_forwards(&self) -> Vec<Vec<u8>> {
+        let mut commands = Vec::new();
+        for place in 0..=self.rules.len() {
+            let here = |each: &&Forward| each.rules_before.min(self.rules.len()) == place;
+            let forwards = self.forwards.iter().filter(here);
+            commands.extend(forwards.map(|each| forward(each.kind, &each.expr)));
+            if let Some((kind, attribute, expr)) = self.rules.get(place) {
+                commands.push(rule(*kind, *attribute, expr));
+            }
+        }
+        commands
+    }
+
+    /// Adds a forward at any place among the rules.
+    pub fn forward(&mut self, rng: &mut Rng, kind: u8, expr: Vec<u8>) {
+        let rules_before = rng.below(self.rules.len() + 1);
+        self.forwards.push(Forward {
+            kind,
+            expr,
+            rules_before,
+        });
     }
 
     pub fn bytes(&self) -> Vec<u8> {
         self.commands().concat()
     }
 
-    /// How many figures and rules it has.
+    /// The bytes without the end command.
+    pub fn open_bytes(&self) -> Vec<u8> {
+        let mut bytes = self.bytes();
+        bytes.pop();
+        bytes
+    }
+
+    /// How many figures, rules and forwards it has.
     pub fn definitions(&self) -> usize {
-        self.figures.len() + self.rules.len()
+        self.figures.len() + self.rules.len() + self.forwards.len()
     }
 
     fn has_figure(&self, node: u16, attribute: u8) -> bool {
@@ -71,6 +108,16 @@ impl Draft {
     fn has_rule(&self, kind: u8, attribute: u8) -> bool {
         let mut rules = self.rules.iter();
         rules.any(|(k, a, _)| (*k, *a) == (kind, attribute))
+    }
+
+    pub fn has_forward(&self, kind: u8) -> bool {
+        self.forwards.iter().any(|forward| forward.kind == kind)
+    }
+
+    /// Whether a rule or forward of a node's kind defines the pair.
+    fn defined_by_kind(&self, node: u16, attribute: u8) -> bool {
+        let kind = self.nodes[usize::from(node)];
+        self.has_rule(kind, attribute) || self.has_forward(kind)
     }
 
     /// The declared pairs of a node and an attribute, node by node.
@@ -84,19 +131,18 @@ impl Draft {
     #[cfg(test)]
     pub fn gaps(&self) -> Vec<(u16, u8)> {
         let undefined = |node, attribute| {
-            let kind = self.nodes[usize::from(node)];
-            !self.has_figure(node, attribute) && !self.has_rule(kind, attribute)
+            !self.has_figure(node, attribute) && !self.defined_by_kind(node, attribute)
         };
         self.pairs()
             .filter(|(node, attribute)| undefined(*node, *attribute))
             .collect()
     }
 
-    /// Figures for the pairs without definition, and once in `times` for a pair with a rule.
+    /// Figures for the pairs without definition, and once in `times` for a pair with a rule or forward.
     pub fn complete(&mut self, rng: &mut Rng, times: usize) {
         for (node, attribute) in self.pairs() {
-            let ruled = self.has_rule(self.nodes[usize::from(node)], attribute);
-            if !self.has_figure(node, attribute) && (!ruled || rng.once_in(times)) {
+            let defined = self.defined_by_kind(node, attribute);
+            if !self.has_figure(node, attribute) && (!defined || rng.once_in(times)) {
                 let result = self.attributes[usize::from(attribute)].result;
                 let value = base_value(rng, result, self.nodes.len());
                 self.figures.push((node, attribute, value));

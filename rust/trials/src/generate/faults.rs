@@ -1,13 +1,13 @@
 //! Sheets with something wrong.
 
-use oracle::expr::LONGEST;
+use oracle::expr::{Use, LONGEST};
 use oracle::sheet::{MOST_ATTRIBUTES, MOST_NODES};
 use oracle::values::{Base, Type};
 
 use super::draft::Draft;
 use super::rng::Rng;
 use super::writer::{apply, function_types, unit_of_length, Writer};
-use crate::write::{if_else, of};
+use crate::write::{forward, if_else, of};
 
 /// A sheet whose commands are dropped, repeated, swapped, cut or given other operands.
 pub fn mangled(rng: &mut Rng, draft: &Draft) -> Vec<u8> {
@@ -50,7 +50,7 @@ pub fn damaged(rng: &mut Rng, mut bytes: Vec<u8>) -> Vec<u8> {
         match rng.below(6) {
             0 => bytes.insert(at, rng.byte()),
             1 => bytes.truncate(at),
-            2 => bytes.push(rng.pick(&[0x41, 0x4E, 0x56, 0x52, 0x5A, 0x00])),
+            2 => bytes.push(rng.pick(&[0x41, 0x4E, 0x56, 0x52, 0x46, 0x5A, 0x00])),
             _ if at == bytes.len() => drop(bytes.pop()),
             3 => drop(bytes.remove(at)),
             4 => bytes[at] ^= 1 << rng.below(8),
@@ -91,15 +91,93 @@ pub fn spoilt(rng: &mut Rng, mut draft: Draft) -> Draft {
     draft
 }
 
-/// Takes out a figure or a rule, if there is one.
+/// Takes out a figure, a rule or a forward, if there is one.
 fn undefine(rng: &mut Rng, draft: &mut Draft) {
     if draft.definitions() == 0 {
         return;
     }
     let place = rng.below(draft.definitions());
-    match place.checked_sub(draft.figures.len()) {
-        None => drop(draft.figures.remove(place)),
-        Some(rule) => drop(draft.rules.remove(rule)),
+    let Some(rule) = place.checked_sub(draft.figures.len()) else {
+        draft.figures.remove(place);
+        return;
+    };
+    match rule.checked_sub(draft.rules.len()) {
+        None => drop(draft.rules.remove(rule)),
+        Some(forward) => drop(draft.forwards.remove(forward)),
+    }
+}
+
+/// A sheet with a fault in a forward: it is cut, before a figure, not there, of no kind, repeated, or of bad length, form or type.
+pub fn in_a_forward(rng: &mut Rng, mut draft: Draft) -> Vec<u8> {
+    if draft.forwards.is_empty() {
+        let kind = rng.below(16) as u8;
+        draft.forward(rng, kind, vec![0x30]);
+    }
+    let place = rng.below(draft.forwards.len());
+    let kind = draft.forwards[place].kind;
+    match rng.below(13) {
+        0 => return [&draft.open_bytes()[..], &cut_forward(rng, kind)].concat(),
+        1 => {
+            let mut commands = draft.commands();
+            let before = draft.attributes.len() + draft.nodes.len();
+            let at = before + rng.below(draft.figures.len() + 1);
+            commands.insert(at, forward(kind, &[0x30]));
+            return commands.concat();
+        }
+        2 | 3 => drop(draft.forwards.remove(place)),
+        4 => draft.forwards[place].kind = rng.pick(&[16, 17, 255]),
+        5 => {
+            let again = draft.forwards[place].expr.clone();
+            draft.forward(rng, kind, again);
+        }
+        6 => {
+            let bad = bad_forward(rng, &draft);
+            draft.forward(rng, kind, bad);
+        }
+        _ => draft.forwards[place].expr = bad_forward(rng, &draft),
+    }
+    draft.bytes()
+}
+
+/// A forward that a sheet cuts by its end, with any length.
+fn cut_forward(rng: &mut Rng, kind: u8) -> Vec<u8> {
+    let length: u16 = rng.pick(&[1, 2, 255, 256, 257, 65_535]);
+    let [low, high] = length.to_le_bytes();
+    let mut command = vec![0x46, rng.pick(&[kind, 16]), low, high];
+    command.resize(4 + rng.below(length.into()), 0x30);
+    command.truncate(rng.between(1, command.len()));
+    command
+}
+
+/// An expression that is no good for a forward, most of the time.
+fn bad_forward(rng: &mut Rng, draft: &Draft) -> Vec<u8> {
+    let mut writer = Writer {
+        rng,
+        draft,
+        usage: Use::Forward,
+        below: usize::MAX,
+    };
+    let mut good = writer.expr(&Type::Base(Base::Node), 12);
+    match writer.rng.below(10) {
+        0 => Vec::new(),
+        1 => unit_of_length(LONGEST + 1),
+        2 => vec![writer.rng.pick(&[0x20, 0x21, 0x22, 0x30]); LONGEST],
+        3 => if_else(&[0x11, 1], &good, &[0x31]),
+        4 => apply(3, &[&[0x31]]),
+        5 => misfit(&mut writer),
+        6 => {
+            let place = writer.rng.below(7);
+            writer.expr(&function_types()[place], 20)
+        }
+        7 => {
+            let at = writer.rng.below(good.len());
+            good[at] = writer.rng.byte();
+            good
+        }
+        _ => {
+            let base = writer.rng.pick(&[Base::Unit, Base::Bool, Base::Int]);
+            writer.expr(&Type::Base(base), 40)
+        }
     }
 }
 
@@ -108,7 +186,9 @@ fn bad_rule(rng: &mut Rng, draft: &Draft, attribute: u8) -> Vec<u8> {
     let mut writer = Writer {
         rng,
         draft,
-        parameter: Some(draft.attributes[usize::from(attribute)].parameter),
+        usage: Use::Rule {
+            parameter: draft.attributes[usize::from(attribute)].parameter,
+        },
         below: usize::MAX,
     };
     match writer.rng.below(8) {
@@ -150,7 +230,7 @@ mod tests {
     use super::*;
     use oracle::sheet::Sheet;
     use oracle::stop::Reason;
-    use std::collections::BTreeSet;
+    use std::collections::{BTreeMap, BTreeSet};
 
     #[test]
     fn every_stop_from_2_to_8_comes_of_some_fault() {
@@ -168,6 +248,43 @@ mod tests {
         }
         for number in 2..=8 {
             assert!(numbers.contains(&number), "{number} never came");
+        }
+    }
+
+    #[test]
+    fn every_stop_of_a_forward_comes_at_its_place() {
+        let mut numbers = BTreeMap::new();
+        for number in 0..3_000 {
+            let rng = &mut Rng::new(13, number);
+            let draft = sheets::draft(rng);
+            let nodes = draft.nodes.len();
+            let sheet = in_a_forward(rng, draft);
+            let Err(stop) = Sheet::read(&sheet) else {
+                continue;
+            };
+            let at_a_forward = sheet.get(stop.place) == Some(&0x46);
+            // A figure behind a forward has the fault in its own place, and a pair without its forward is named by node and attribute.
+            let other = match stop.reason {
+                Reason::Command => sheet.get(stop.place) == Some(&0x56),
+                Reason::NoDefinition => stop.place / MOST_ATTRIBUTES < nodes,
+                _ => false,
+            };
+            *numbers
+                .entry((stop.reason as i64, at_a_forward, other))
+                .or_default() += 1;
+        }
+        for (number, at_a_forward) in [
+            (2, true),
+            (2, false),
+            (4, true),
+            (5, true),
+            (6, true),
+            (7, true),
+            (8, false),
+        ] {
+            let key = (number, at_a_forward, !at_a_forward);
+            let met: usize = numbers.get(&key).copied().unwrap_or(0);
+            assert!(met > 50, "{key:?}: {numbers:?}");
         }
     }
 

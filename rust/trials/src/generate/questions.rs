@@ -1,6 +1,6 @@
 //! Questions, good and bad.
 
-use oracle::expr::LONGEST;
+use oracle::expr::{Use, LONGEST};
 use oracle::sheet::MOST_ATTRIBUTES;
 use oracle::values::{Base, Type, Value};
 
@@ -26,7 +26,7 @@ pub fn question(rng: &mut Rng, draft: &Draft) -> Vec<u8> {
     let mut writer = Writer {
         rng,
         draft,
-        parameter: None,
+        usage: Use::Question,
         below: attributes,
     };
     match writer.rng.below(12) {

@@ -1,33 +1,39 @@
 //! Sheets by family.
 
 use oracle::caching::MOST_OPEN;
-use oracle::expr::LONGEST;
+use oracle::expr::{Use, LONGEST};
 use oracle::sheet::{LONGEST_SHEET, MOST_ATTRIBUTES, MOST_NODES};
 use oracle::values::{Base, Type, Value};
 
 use super::circles;
 use super::collisions;
 use super::draft::{base_value, int, small_int, Draft};
+use super::forwards;
 use super::rng::Rng;
 use super::sums;
 use super::writer::{apply, literal, number, unit_of_length, wrapped, Writer};
 use crate::write::{if_else, of};
 
-/// A sheet of some family. Nearly all are accepted.
+/// A sheet of some family. Nearly all are accepted. One in three has forwards.
 pub fn draft(rng: &mut Rng) -> Draft {
-    match rng.below(50) {
+    let mut draft = match rng.below(60) {
         0..=11 => random_sheet(rng, false),
         12..=18 => random_sheet(rng, true),
         19..=25 => chain(rng),
         26..=30 => countdown(rng),
         31..=37 => circles::draft(rng),
         38..=41 => hostile(rng),
-        42 | 43 => collisions::draft(rng),
+        42 | 43 => return collisions::draft(rng),
         44 | 45 => tree(rng),
-        46 => large(rng),
+        46 => return large(rng),
         47 | 48 => sums::draft(rng),
-        _ => Draft::default(),
+        49 => Draft::default(),
+        _ => return forwards::draft(rng),
+    };
+    if rng.once_in(5) {
+        forwards::put_onto(rng, &mut draft);
     }
+    draft
 }
 
 /// Random attributes, few or as many as there can be, nodes, figures and rules. Without circles, a rule names only attributes declared
@@ -66,7 +72,9 @@ fn random_sheet(rng: &mut Rng, circles: bool) -> Draft {
             let mut writer = Writer {
                 rng,
                 draft: &draft,
-                parameter: Some(declared.parameter),
+                usage: Use::Rule {
+                    parameter: declared.parameter,
+                },
                 below: if circles { usize::MAX } else { attribute },
             };
             let expr = writer.expr(&Type::Base(declared.result), room);
@@ -306,7 +314,9 @@ fn large(rng: &mut Rng) -> Draft {
             let mut writer = Writer {
                 rng,
                 draft: &draft,
-                parameter: Some(declared.parameter),
+                usage: Use::Rule {
+                    parameter: declared.parameter,
+                },
                 below: attribute,
             };
             let expr = writer.expr(&Type::Base(declared.result), room);
@@ -394,11 +404,23 @@ mod tests {
                 collisions::draft(rng),
                 tree(rng),
                 sums::draft(rng),
+                forwards::draft(rng),
             ] {
-                let read = Sheet::read(&draft.bytes());
-                assert!(read.is_ok(), "{:?}", read.err());
+                let mut with_forwards = draft.clone();
+                forwards::put_onto(rng, &mut with_forwards);
+                for draft in [draft, with_forwards] {
+                    let read = Sheet::read(&draft.bytes());
+                    assert!(read.is_ok(), "{:?}", read.err());
+                }
             }
         }
+    }
+
+    #[test]
+    fn one_sheet_in_three_has_forwards() {
+        let drafts = (0..3_000).map(|number| draft(&mut Rng::new(2, number)));
+        let with = drafts.filter(|draft| !draft.forwards.is_empty()).count();
+        assert!((900..1_200).contains(&with), "{with} of 3,000");
     }
 
     #[test]

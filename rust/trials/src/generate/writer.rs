@@ -1,6 +1,6 @@
 //! Expressions of a wanted type or shape.
 
-use oracle::expr::LONGEST;
+use oracle::expr::{Use, LONGEST};
 use oracle::values::{Base, Function, Type, Value};
 
 use super::draft::{base_value, Draft};
@@ -43,8 +43,7 @@ fn leaf_lengths(types: &[Type]) -> usize {
 pub struct Writer<'a> {
     pub rng: &'a mut Rng,
     pub draft: &'a Draft,
-    /// The type of 0x31 in a rule; `None` in a question.
-    pub parameter: Option<Base>,
+    pub usage: Use,
     /// Only attributes with smaller numbers are named.
     pub below: usize,
 }
@@ -94,9 +93,13 @@ impl Writer<'_> {
 
     fn leaf(&mut self, typ: &Type) -> Vec<u8> {
         match typ {
-            Type::Base(base) if self.parameter == Some(*base) && self.rng.once_in(2) => vec![0x31],
-            Type::Base(Base::Node) if self.parameter.is_some() && self.rng.once_in(2) => vec![0x30],
-            Type::Base(base) => literal(base_value(self.rng, *base, self.draft.nodes.len())),
+            Type::Base(base) => match self.usage {
+                Use::Rule { parameter } if parameter == *base && self.rng.once_in(2) => vec![0x31],
+                Use::Rule { .. } | Use::Forward if *base == Base::Node && self.rng.once_in(2) => {
+                    vec![0x30]
+                }
+                _ => literal(base_value(self.rng, *base, self.draft.nodes.len())),
+            },
             Type::Function(Base::Bool, _) => vec![0x14, 3],
             Type::Function(from, to) => match **to {
                 Type::Function(_, result) => vec![0x14, self.code(*from, result)],
@@ -178,7 +181,7 @@ mod tests {
         let scope = Scope {
             attributes: &[],
             nodes: 0,
-            parameter: None,
+            usage: Use::Question,
         };
         for length in 14..=300 {
             let written = unit_of_length(length);
@@ -205,13 +208,19 @@ mod tests {
                 base @ 0..=3 => Type::Base(Base::ALL[base]),
                 function => function_types()[function - 4],
             };
-            let parameter = (round % 2 == 0).then(|| rng.pick(&Base::ALL));
+            let usage = match round % 3 {
+                0 => Use::Question,
+                1 => Use::Forward,
+                _ => Use::Rule {
+                    parameter: rng.pick(&Base::ALL),
+                },
+            };
             let room = rng.between(8, LONGEST);
             let attributes: &[Attribute] = &draft.attributes;
             let written = Writer {
                 rng: &mut rng,
                 draft: &draft,
-                parameter,
+                usage,
                 below: attributes.len(),
             }
             .expr(&typ, room);
@@ -219,7 +228,7 @@ mod tests {
             let scope = Scope {
                 attributes,
                 nodes: 3,
-                parameter,
+                usage,
             };
             let expr = Expr::read(&written, scope).expect("of the form");
             assert_eq!(expr.type_of(scope), Some(typ));

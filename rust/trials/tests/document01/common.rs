@@ -82,6 +82,16 @@ pub fn plain_ending(sheet: &[u8], question: &[u8], limit: u64) -> Ending {
     plain_watched(sheet, question, limit).ending
 }
 
+/// Number and place of the stop that a sheet brings; store and kept stay as lent, and no row has steps.
+pub fn refused(sheet: &[u8]) -> (i64, i64) {
+    let mut store = [0xEE; 25];
+    let given = ask(sheet, &mut store, 9, &[0xFF], u64::MAX);
+    assert_eq!(store, [0xEE; 25]);
+    let Answer { number, place, .. } = given;
+    assert_eq!(given, Answer::new([number, place, 0, 0, 0, 9], [0; 34]));
+    (number, place)
+}
+
 /// The answer with a new store of 1,024.
 pub fn fresh(sheet: &[u8], question: &[u8], budget: u64) -> Answer {
     Lent::new(1_024).ask(sheet, question, budget)
@@ -98,24 +108,30 @@ pub fn answer_to(call: &mut Call) -> Answer {
     )
 }
 
-/// Tries demand 3 and the claims on circles on a list with stores of several capacities. Each comes with what was tried.
-pub fn tried_by_demand_3(sheet: &[u8], asks: &[(Vec<u8>, u64)]) -> Vec<(usize, Counts)> {
-    let mut engine = |mut call: Call| answer_to(&mut call);
+/// A list with stores of several capacities, each with nothing kept.
+pub fn in_stores(sheet: &[u8], asks: &[(Vec<u8>, u64)]) -> Vec<(usize, Case)> {
     let ask = |(question, budget): &(Vec<u8>, u64)| Ask {
         question: question.clone(),
         budget: *budget,
     };
-    let mut tried = |capacity| {
+    let in_store = |capacity| {
         let case = Case {
             sheet: sheet.to_vec(),
             store: vec![0xEE; 12 * capacity],
             kept: 0,
             asks: asks.iter().map(ask).collect(),
         };
-        match demand3(&mut engine, &case) {
-            Ok(counts) => (capacity, counts),
-            Err(violation) => panic!("capacity {capacity}: {violation}"),
-        }
+        (capacity, case)
     };
-    [0, 1, 2, 5, 1_024].map(&mut tried).into()
+    [0, 1, 2, 5, 1_024].map(in_store).into()
+}
+
+/// Tries demand 3 and the claims on circles on a list with stores of several capacities. Each comes with what was tried.
+pub fn tried_by_demand_3(sheet: &[u8], asks: &[(Vec<u8>, u64)]) -> Vec<(usize, Counts)> {
+    let mut engine = |mut call: Call| answer_to(&mut call);
+    let tried = |(capacity, case): (usize, Case)| match demand3(&mut engine, &case) {
+        Ok(counts) => (capacity, counts),
+        Err(violation) => panic!("capacity {capacity}: {violation}"),
+    };
+    in_stores(sheet, asks).into_iter().map(tried).collect()
 }

@@ -365,6 +365,118 @@ fn an_engine_that_keeps_what_a_circle_left_open() {
     assert_eq!(by, (false, Some("circles (2)")));
 }
 
+/// Sheet LF, with some rules and forwards in the place of its forward.
+fn lf_by(rules: &[u8]) -> Vec<u8> {
+    l_with(&node(2), &figure(3, UP, 1), rules)
+}
+
+/// Own and dial of node 3.
+fn forwarded_case(sheet: Vec<u8>, capacity: usize) -> Case {
+    let asks = [OWN, DIAL].map(|attribute| of(&node_literal(3), attribute, &UNIT));
+    Case {
+        sheet,
+        ..case(capacity, &asks)
+    }
+}
+
+#[test]
+fn engines_that_take_another_definition_where_a_forward_is_in_force_or_is_not() {
+    let up = forward(2, &this_up());
+    let with_figure = l_with(
+        &node(2),
+        &[figure(3, UP, 1), figure(3, OWN, 9)].concat(),
+        &up,
+    );
+    let with_rule = lf_by(&[&up[..], &rule(2, OWN, &int(5))].concat());
+    let with_another = lf_by(&[&up[..], &forward(1, &node_literal(2))].concat());
+    // The forward before the figure and before the rule takes more steps than there is need of; that of another kind takes fewer, to another node.
+    let another = lf_by(&forward(2, &node_literal(2)));
+    for (sheet, taken, violated) in [
+        (with_figure, sheet_lf(), "demand 3 (a)"),
+        (with_rule, sheet_lf(), "demand 3 (a)"),
+        (with_another, another, "demand 3 (b)"),
+    ] {
+        let careless = |call: Call| {
+            answer_to(&mut Call {
+                sheet: &taken,
+                ..call
+            })
+        };
+        let by = let_by_on(&forwarded_case(sheet, 5), careless);
+        assert_eq!(by, (false, Some(violated)));
+    }
+}
+
+#[test]
+fn an_engine_that_hands_on_another_parameter() {
+    // Node 1 forwards to node 0, whose attribute is its parameter.
+    let sheet = |rule_1: &[u8]| {
+        [
+            attribute(INT_TYPE, INT_TYPE),
+            node(0),
+            node(1),
+            rule(0, 0, &PARAMETER),
+            rule_1.to_vec(),
+            end(),
+        ]
+        .concat()
+    };
+    let to_node_0 = |parameter: &[u8]| rule(1, 0, &of(&node_literal(0), 0, parameter));
+    let list = Case {
+        sheet: sheet(&forward(1, &node_literal(0))),
+        ..case(5, &[of(&node_literal(1), 0, &int(7))])
+    };
+    for (parameter, by) in [
+        (PARAMETER.to_vec(), (true, None)),
+        (int(0), (false, Some("demand 3 (a)"))),
+    ] {
+        let sheet = sheet(&to_node_0(&parameter));
+        let handing = |call: Call| {
+            answer_to(&mut Call {
+                sheet: &sheet,
+                ..call
+            })
+        };
+        assert_eq!(let_by_on(&list, handing), by);
+    }
+}
+
+#[test]
+fn an_engine_that_does_not_count_the_step_of_the_node_that_a_forward_leads_to() {
+    // It takes fewer steps than plain Saiga, which demand 3 lets by where there is a store.
+    let sparing = |mut call: Call| {
+        let mut given = answer_to(&mut call);
+        let attribute = usize::from(call.question[1]);
+        if given.number == 0 && given.tally[attribute] > 1 {
+            given.steps -= 1;
+            given.tally[attribute] -= 1;
+        }
+        given
+    };
+    let list = forwarded_case(sheet_lf(), 7);
+    assert_eq!(let_by_on(&list, sparing), (false, None));
+    let by = let_by_on(&forwarded_case(sheet_lf(), 0), sparing);
+    assert_eq!(by, (false, Some("capacity 0")));
+}
+
+#[test]
+fn an_engine_that_does_not_keep_what_a_forward_defines() {
+    let forgetful = |mut call: Call| {
+        let given = answer_to(&mut call);
+        let last = 12 * (given.kept as usize).saturating_sub(1);
+        match call.store.get(last) {
+            // Node 3's own or dial, the last that is kept.
+            Some(3) if given.kept > call.kept as i64 => Answer {
+                kept: given.kept - 1,
+                ..given
+            },
+            _ => given,
+        }
+    };
+    let list = forwarded_case(sheet_lf(), 1_024);
+    assert_eq!(let_by_on(&list, forgetful), (false, None));
+}
+
 #[test]
 fn with_capacity_0_the_steps_are_plain_saigas_own() {
     // Null is met before the parameter is stepped: fewer steps than plain Saiga's 1, which demand 3 lets by.

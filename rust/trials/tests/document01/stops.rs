@@ -1,19 +1,9 @@
 //! Document 01, "Stops by origin": each stop, its place, and the order among them. `depth` has stop 16, `overflow` and `circles` stops 17 and 20 of
-//! document 02.
+//! document 02, `forwards` the stops of its forwards.
 
 use crate::ask;
 use crate::common::*;
 use trials::Answer;
-
-/// Number and place of the stop that a sheet brings; store and kept stay as lent, and no row has steps.
-fn refused(sheet: &[u8]) -> (i64, i64) {
-    let mut store = [0xEE; 25];
-    let given = ask(sheet, &mut store, 9, &[0xFF], u64::MAX);
-    assert_eq!(store, [0xEE; 25]);
-    let Answer { number, place, .. } = given;
-    assert_eq!(given, Answer::new([number, place, 0, 0, 0, 9], [0; 34]));
-    (number, place)
-}
 
 /// Sheet L without its end, and the offset of what follows it.
 fn l_open() -> Vec<u8> {

@@ -9,7 +9,7 @@ const LISTS: &str = include_str!("../../../../tests/vectors/lists.txt");
 #[test]
 fn the_oracle_agrees_with_every_list() {
     let lists = read_lists(LISTS).expect("the text form");
-    assert_eq!(lists.len(), 342);
+    assert_eq!(lists.len(), 518);
     let mut oracle = Oracle::default();
     for listed in lists {
         assert!(listed.answers.iter().all(adds_up), "{listed}");
