@@ -1,5 +1,7 @@
 // AttrApp and CacheWrite (document 01, "The steps"): an attribute's value is taken from the store, from its figure, or from its rule or forward inside
 // a form; a form's value is kept.
+#![tactic(auto)]
+
 ghost use Rattle.std.specs.Prelude.{List, ◌≡◌, ℕ, ◌/◌, ◌%◌, ◌≤◌, ◌<◌, leb, length};
 ghost use Rattle.std.proofs.Math.Option.{none};
 ghost use Rattle.saiga.specs.Limits.{entry_width, depth_limit};
@@ -36,8 +38,8 @@ fn is_full(store: &[u8], kept: usize) -> bool
 // number after it.
 fn keep(store: &mut [u8], links: &mut [u16], kept: usize, e: Fields, cell: usize) -> usize
     requires write_ready { WriteReady store.old links.old kept × Keyed (key_in e) }
-    requires e_value { (find_key store.old kept (key_in e) ≡ none) × Free links.old (key_in e) cell }
-    ensures result_after { (store.new, result) ≡ cache_write store.old kept e }
+    requires absent { (find_key store.old kept (key_in e) ≡ none) × Free links.old (key_in e) cell }
+    ensures written { (store.new, result) ≡ cache_write store.old kept e }
     ensures linked { Linked store.new result links.new }
 {
     if is_full(store, kept) {
@@ -51,8 +53,8 @@ fn keep(store: &mut [u8], links: &mut [u16], kept: usize, e: Fields, cell: usize
 // looked for, and a store with room has the free cell for it in its index.
 fn keep_open(store: &mut [u8], links: &mut [u16], kept: usize, key: Key, value: Value) -> usize
     requires write_ready { WriteReady store.old links.old kept × Keyed key }
-    requires key_value { find_key store.old kept key ≡ none }
-    ensures result_after { (store.new, result) ≡ cache_write store.old kept (fields_for key value) }
+    requires absent { find_key store.old kept key ≡ none }
+    ensures written { (store.new, result) ≡ cache_write store.old kept (fields_for key value) }
     ensures linked { Linked store.new result links.new }
 {
     if is_full(store, kept) {
@@ -66,7 +68,7 @@ fn keep_open(store: &mut [u8], links: &mut [u16], kept: usize, key: Key, value: 
 // The value that a form waited for is kept, and given to the frame around it.
 pub fn close_form(store: &mut [u8], links: &mut [u16], memory: &[u64], m: Registers) -> Registers
     requires { CloseReady store.old links.old memory.now m }
-    ensures memory_after { goes result (memory_of store.new memory.now) ≡ close_form (memory_of store.old memory.now) m }
+    ensures follows { goes result (memory_of store.new memory.now) ≡ close_form (memory_of store.old memory.now) m }
     ensures linked { Linked store.new result.kept links.new }
 {
     let f = engine::frames::form_place(m.forms - 1);
@@ -93,9 +95,9 @@ pub fn close_form(store: &mut [u8], links: &mut [u16], memory: &[u64], m: Regist
 // The piece whose length stands at `number` runs inside a form, and the form's words say where the piece around it goes on.
 fn open_piece(sheet: &[u8], memory: &mut [u64], m: Registers, key: Key, number: usize) -> Registers
     requires { PieceHere sheet.now number × StepReady memory.old m × (m.forms < depth_limit) }
-    ensures by_index { (store : List ℕ) → goes result (memory_of store memory.new)
+    ensures follows { (store : List ℕ) → goes result (memory_of store memory.new)
         ≡ open_piece sheet.now (memory_of store memory.old) m key.node key.attribute key.word number }
-    ensures memory_unchanged { opens_in memory.new ≡ opens_in memory.old }
+    ensures opens_same { opens_in memory.new ≡ opens_in memory.old }
 {
     let n = key.node as usize;
     let a = key.attribute as usize;
@@ -124,9 +126,9 @@ fn open_piece(sheet: &[u8], memory: &mut [u64], m: Registers, key: Key, number: 
 // AttrApp by a rule, or else by a forward, whose frame stands on the form.
 fn open_rule(sheet: &[u8], index: &[u16], memory: &mut [u64], m: Registers, key: Key) -> Registers
     requires { RuleReady sheet.now index.now memory.old m key.node key.attribute }
-    ensures by_index { (store : List ℕ) → goes result (memory_of store memory.new)
+    ensures follows { (store : List ℕ) → goes result (memory_of store memory.new)
         ≡ open_rule sheet.now index.now (memory_of store memory.old) m key.node key.attribute key.word }
-    ensures memory_unchanged { opens_in memory.new ≡ opens_in memory.old }
+    ensures opens_same { opens_in memory.new ≡ opens_in memory.old }
 {
     let found = sheets::lookup::found_piece(
         sheet,
@@ -155,12 +157,12 @@ fn take_figure(
     v: Value,
 ) -> Step
     requires write_ready { WriteReady store.old links.old m.kept × Keyed key × (1 ≤ m.frames) }
-    requires key_value { (find_key store.old m.kept key ≡ none) × Free links.old key cell }
-    ensures by_index { (run : List ℕ) → stepped_of result (memory_of store.new run)
+    requires absent { (find_key store.old m.kept key ≡ none) × Free links.old key cell }
+    ensures follows { (run : List ℕ) → stepped_of result (memory_of store.new run)
         ≡ limited limits.budget limits.pause m (keeps_figure (memory_of store.old run) m key.node key.attribute key.word v) }
     ensures linked { Linked store.new (kept_after result m) links.new }
-    ensures m_value { forms_after result m ≡ m.forms }
-    ensures by_index_2 { (run : List ℕ) → Still result (memory_of store.old run) (memory_of store.new run) }
+    ensures forms_same { forms_after result m ≡ m.forms }
+    ensures still { (run : List ℕ) → Still result (memory_of store.old run) (memory_of store.new run) }
 {
     if limits.budget <= m.steps {
         return Step::Stops(15);
@@ -187,12 +189,12 @@ fn take_rule(
 ) -> Step
     requires keyed { Keyed key × IndexedPiece sheet.now index.now key.node key.attribute }
     requires frame_ready { FrameReady memory.old m × Opened (forms_in memory.old) (opens_in memory.old) m.forms }
-    ensures by_index { (store : List ℕ) → stepped_of result (memory_of store memory.new)
+    ensures follows { (store : List ℕ) → stepped_of result (memory_of store memory.new)
         ≡ rule_due sheet.now index.now limits.budget limits.pause (memory_of store memory.old) m
         key.node key.attribute key.word }
-    ensures m_value { kept_after result m ≡ m.kept }
+    ensures kept_same { kept_after result m ≡ m.kept }
     ensures opened { Opened (forms_in memory.new) (opens_in memory.new) (forms_after result m) }
-    ensures by_index_2 { (store : List ℕ) → Still result (memory_of store memory.old) (memory_of store memory.new) }
+    ensures still { (store : List ℕ) → Still result (memory_of store memory.old) (memory_of store memory.new) }
 {
     let Opening::Closed(place) = opens::find(memory, m.forms, key) else {
         return Step::Stops(20);
@@ -223,9 +225,9 @@ fn take_missing(
     key: Key,
     cell: usize,
 ) -> Step
-    requires word_value { (key.word ≡ to_word m.value) × Keyed key × (find_key store.old m.kept key ≡ none) × Free links.old key cell }
+    requires keyed { (key.word ≡ to_word m.value) × Keyed key × (find_key store.old m.kept key ≡ none) × Free links.old key cell }
     requires attribute_ready { AttributeReady sheet.now index.now store.old links.old memory.old m key.node key.attribute }
-    ensures memory_after { stepped_of result (memory_of store.new memory.new)
+    ensures follows { stepped_of result (memory_of store.new memory.new)
         ≡ take_kept sheet.now index.now limits.budget limits.pause (memory_of store.old memory.old) m
         key.node key.attribute none }
     ensures linked { Linked store.new (kept_after result m) links.new }
@@ -266,9 +268,9 @@ fn take_attribute(
     m: Registers,
     key: Key,
 ) -> Step
-    requires word_value { (key.word ≡ to_word m.value) × Keyed key }
+    requires keyed { (key.word ≡ to_word m.value) × Keyed key }
     requires attribute_ready { AttributeReady sheet.now index.now store.old links.old memory.old m key.node key.attribute }
-    ensures memory_after { stepped_of result (memory_of store.new memory.new)
+    ensures follows { stepped_of result (memory_of store.new memory.new)
         ≡ take_kept sheet.now index.now limits.budget limits.pause (memory_of store.old memory.old) m
         key.node key.attribute (find_key store.old m.kept key) }
     ensures linked { Linked store.new (kept_after result m) links.new }
@@ -297,10 +299,10 @@ pub fn attribute_due(
     requires linked { Linked store.old m.kept links.old × Opened (forms_in memory.old) (opens_in memory.old) m.forms }
     requires attribute_ready { (node_of (value_in (held_node w)) ≡ null → ⊥)
         → AttributeReady sheet.now index.now store.old links.old memory.old m (node_of (value_in (held_node w))) (held_attribute w) }
-    ensures memory_after { stepped_of result (memory_of store.new memory.new)
+    ensures follows { stepped_of result (memory_of store.new memory.new)
         ≡ attribute_due sheet.now index.now limits.budget limits.pause (memory_of store.old memory.old) m
         (node_of (value_in (held_node w))) (held_attribute w) }
-    ensures linked_2 { Linked store.new (kept_after result m) links.new }
+    ensures linked_after { Linked store.new (kept_after result m) links.new }
     ensures opened { Opened (forms_in memory.new) (opens_in memory.new) (forms_after result m) }
     ensures still { Still result (memory_of store.old memory.old) (memory_of store.new memory.new) }
 {

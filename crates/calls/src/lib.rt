@@ -1,5 +1,7 @@
 // A question call (document 01, "Contracts"): the sheet, the store with its kept number, the question and the budget in; the answer out, its tally
 // (F-2 of document 02), and the store with what the run kept. `ask` checks all of them; `ask_checked` is for a caller who has checked the sheet and indexed the store.
+#![tactic(auto)]
+
 pub mod checks;
 
 ghost use Rattle.std.specs.Prelude.{[], ◌≡◌, replicate};
@@ -73,8 +75,8 @@ fn put<'a>(
     budget: usize,
 ) -> Answer
     requires askable { Askable sheet.now index.now notes.now question.now store.old links.old memory.old kept budget }
-    requires tally_value { tally.old ≡ replicate tally_rows 0 }
-    ensures result_value { answer_of result ≡ (called sheet.now (lent store.old kept) (asking question.now budget)).answer }
+    requires tally_empty { tally.old ≡ replicate tally_rows 0 }
+    ensures answer { answer_of result ≡ (called sheet.now (lent store.old kept) (asking question.now budget)).answer }
     ensures tally_after { tally.new ≡ (called sheet.now (lent store.old kept) (asking question.now budget)).tally }
     ensures store_after { store.new ≡ (called sheet.now (lent store.old kept) (asking question.now budget)).store }
     ensures linked { Linked store.new (answer_of result).kept links.new }
@@ -113,10 +115,10 @@ pub fn ask_checked<'a>(
 ) -> Answer
     requires prepared_sheet { PreparedSheet sheet.now index.now × NotedSheet sheet.now index.now notes.now }
     requires prepared_store { PreparedStore sheet.now store.old kept links.old }
-    ensures result_value { answer_of result ≡ (called sheet.now (lent store.old kept) (asking question.now budget)).answer }
+    ensures answer { answer_of result ≡ (called sheet.now (lent store.old kept) (asking question.now budget)).answer }
     ensures tally_after { tally.new ≡ (called sheet.now (lent store.old kept) (asking question.now budget)).tally }
     ensures store_after { store.new ≡ (called sheet.now (lent store.old kept) (asking question.now budget)).store }
-    ensures prepared_store_2 { PreparedStore sheet.now store.new (answer_of result).kept links.new }
+    ensures prepared_after { PreparedStore sheet.now store.new (answer_of result).kept links.new }
     ensures run_scratch { RunScratch (check_call sheet.now (lent store.old kept) (asking question.now budget))
         memory.old memory.new }
 {
@@ -146,7 +148,7 @@ pub fn ask<'a>(
     memory: &mut [u64; RUN_SIZE],
     tally: &mut [u64; TALLY_ROWS],
 ) -> Answer
-    ensures result_value { answer_of result ≡ (called sheet.now (lent store.old kept) (asking question.now budget)).answer }
+    ensures answer { answer_of result ≡ (called sheet.now (lent store.old kept) (asking question.now budget)).answer }
     ensures tally_after { tally.new ≡ (called sheet.now (lent store.old kept) (asking question.now budget)).tally }
     ensures store_after { store.new ≡ (called sheet.now (lent store.old kept) (asking question.now budget)).store }
     ensures indexes { Indexes sheet.now store.new (answer_of result).kept index.new notes.new links.new }

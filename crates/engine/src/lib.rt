@@ -1,4 +1,6 @@
 // The evaluator: a machine with explicit frames in lent memory (document 01, "The steps").
+#![tactic(auto)]
+
 pub mod frames;
 
 ghost use Rattle.std.specs.Prelude.{List, ◌≡◌, ℕ, ◌+◌, ◌*◌, ◌/◌, ◌%◌, ◌^◌, ◌≤◌, ◌<◌, length};
@@ -164,10 +166,10 @@ fn this_parameter(sheet: &[u8], memory: &[u64], m: Registers) -> Value
 // A head is read, with its operand. `e` is the rest of the running piece.
 pub fn read_head(sheet: &[u8], e: &[u8], memory: &mut [u64], m: Registers) -> Registers
     requires { ReadReady sheet.now e.now memory.old m }
-    ensures by_index { (index : List ℕ) (store : List ℕ)
+    ensures follows { (index : List ℕ) (store : List ℕ)
         → goes result (memory_of store memory.new)
         ≡ read_next sheet.now index (memory_of store memory.old) m e.now }
-    ensures memory_unchanged { opens_in memory.new ≡ opens_in memory.old }
+    ensures opens_same { opens_in memory.new ≡ opens_in memory.old }
 {
     let top = m.frames;
     let head = e[0];
@@ -236,8 +238,8 @@ pub fn take_forward(sheet: &[u8], memory: &mut [u64], m: Registers, a: u64) -> R
 // The registers and the memory with a forward's frame more.
 pub fn push_forward(memory: &mut [u64], m: Registers, a: u64) -> Registers
     requires { (length memory.old ≡ run_size) × (m.frames < frame_limit) × (a < attribute_limit) }
-    ensures by_index { (store : List ℕ) → goes result (memory_of store memory.new) ≡ forwarding a (goes m (memory_of store memory.old)) }
-    ensures memory_unchanged { opens_in memory.new ≡ opens_in memory.old }
+    ensures follows { (store : List ℕ) → goes result (memory_of store memory.new) ≡ forwarding a (goes m (memory_of store memory.old)) }
+    ensures opens_same { opens_in memory.new ≡ opens_in memory.old }
 {
     let top = m.frames;
     memory[top] = frames::on_forward(a);
@@ -260,7 +262,7 @@ fn width(notes: &[u8], e: &[u8], m: Registers) -> usize
 // The value of the branch that was taken: the other is passed over. `e` is the rest of the running piece.
 pub fn take_skip(notes: &[u8], e: &[u8], m: Registers) -> Registers
     requires pass_ready { PassReady notes.now e.now m }
-    requires le_frames { (1 ≤ m.frames) × (m.at + length e.now < 2 ^ 64) }
+    requires frame_under { (1 ≤ m.frames) × (m.at + length e.now < 2 ^ 64) }
     ensures { Passes e.now (λ skip. result ≡ skipped m skip) }
 {
     let value = m.value;
@@ -282,7 +284,7 @@ pub fn take_if(notes: &[u8], e: &[u8], memory: &mut [u64], m: Registers) -> Regi
     requires frame_ready { FrameReady memory.old m × (m.at + length e.now < 2 ^ 64) × (m.steps + 1 < 2 ^ 64) }
     ensures passes { Passes e.now (λ skip. (store : List ℕ)
         → goes result (memory_of store memory.new) ≡ take_if skip (memory_of store memory.old) m (truth m.value)) }
-    ensures memory_unchanged { opens_in memory.new ≡ opens_in memory.old }
+    ensures opens_same { opens_in memory.new ≡ opens_in memory.old }
 {
     let value = m.value;
     if values::truth(value) {

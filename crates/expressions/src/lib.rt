@@ -2,6 +2,8 @@
 // front of bytes that are known to have one.
 // A reader is lent `notes`, in which `at` is the place of the first byte that it reads: at the place of each expression's first byte it leaves the
 // expression's width less one (specs/Noted.antt).
+#![tactic(auto)]
+
 pub mod numbers;
 
 ghost use Rattle.std.specs.Prelude.{cond, ◌≡◌, List, ℕ, ◌+◌, ◌*◌, ◌%◌, ◌≤◌, ◌<◌, length, drop};
@@ -161,9 +163,9 @@ fn read_function(l: &[u8]) -> Form
 // The three expressions of an IF.
 #[cycle(read_read_application_read_attribute_read_by_head_read_if)]
 fn read_if(types: &[u8], within: usize, l: &[u8], notes: &mut [u8], at: usize) -> Form
-    requires within_in_bounds { 3 * declared_in within ≤ length types.now }
-    requires l_len_bound { (length l.now ≤ expression_limit) × (at + length l.now ≤ length notes.old) }
-    ensures by_index { (k : ℕ) → length l.now ≤ k
+    requires types_within { 3 * declared_in within ≤ length types.now }
+    requires bytes_within { (length l.now ≤ expression_limit) × (at + length l.now ≤ length notes.old) }
+    ensures formed { (k : ℕ) → length l.now ≤ k
         → result ≡ form_after (scope_of (nodes_in within) (declared_in within) (this_in within) (parameter_in within)) (attributes_in types.now (declared_in within)) (base_of (within % 256)) k if_head l.now }
     ensures notes_inside { NotesInside 1 l.now at notes.old notes.new result }
 {
@@ -183,9 +185,9 @@ fn read_if(types: &[u8], within: usize, l: &[u8], notes: &mut [u8], at: usize) -
 // The two expressions of an application.
 #[cycle(read_read_application_read_attribute_read_by_head_read_if)]
 fn read_application(types: &[u8], within: usize, l: &[u8], notes: &mut [u8], at: usize) -> Form
-    requires within_in_bounds { 3 * declared_in within ≤ length types.now }
-    requires l_len_bound { (length l.now ≤ expression_limit) × (at + length l.now ≤ length notes.old) }
-    ensures by_index { (k : ℕ) → length l.now ≤ k
+    requires types_within { 3 * declared_in within ≤ length types.now }
+    requires bytes_within { (length l.now ≤ expression_limit) × (at + length l.now ≤ length notes.old) }
+    ensures formed { (k : ℕ) → length l.now ≤ k
         → result ≡ form_after (scope_of (nodes_in within) (declared_in within) (this_in within) (parameter_in within)) (attributes_in types.now (declared_in within)) (base_of (within % 256)) k application_head l.now }
     ensures notes_inside { NotesInside 1 l.now at notes.old notes.new result }
 {
@@ -201,9 +203,9 @@ fn read_application(types: &[u8], within: usize, l: &[u8], notes: &mut [u8], at:
 // The attribute's number, and the expressions of the node and the parameter.
 #[cycle(read_read_application_read_attribute_read_by_head_read_if)]
 fn read_attribute(types: &[u8], within: usize, l: &[u8], notes: &mut [u8], at: usize) -> Form
-    requires within_in_bounds { 3 * declared_in within ≤ length types.now }
-    requires l_len_bound { (length l.now ≤ expression_limit) × (at + length l.now ≤ length notes.old) }
-    ensures by_index { (k : ℕ) → length l.now ≤ k
+    requires types_within { 3 * declared_in within ≤ length types.now }
+    requires bytes_within { (length l.now ≤ expression_limit) × (at + length l.now ≤ length notes.old) }
+    ensures formed { (k : ℕ) → length l.now ≤ k
         → result ≡ form_after (scope_of (nodes_in within) (declared_in within) (this_in within) (parameter_in within)) (attributes_in types.now (declared_in within)) (base_of (within % 256)) k attribute_head l.now }
     ensures notes_inside { NotesInside 2 (drop 1 l.now) (at + 1) notes.old notes.new result }
 {
@@ -228,9 +230,9 @@ fn read_attribute(types: &[u8], within: usize, l: &[u8], notes: &mut [u8], at: u
 // together.
 #[cycle(read_read_application_read_attribute_read_by_head_read_if)]
 fn read_by_head(types: &[u8], within: usize, e: &[u8], notes: &mut [u8], at: usize) -> Form
-    requires within_in_bounds { 3 * declared_in within ≤ length types.now }
-    requires e_len_bound { (length e.now ≤ expression_limit) × (at + length e.now ≤ length notes.old) }
-    ensures by_index { (k : ℕ) → length e.now ≤ k
+    requires types_within { 3 * declared_in within ≤ length types.now }
+    requires bytes_within { (length e.now ≤ expression_limit) × (at + length e.now ≤ length notes.old) }
+    ensures formed { (k : ℕ) → length e.now ≤ k
         → result ≡ form_of (attributes_in types.now (declared_in within)) (base_of (within % 256)) (read_expr (scope_of (nodes_in within) (declared_in within) (this_in within) (parameter_in within)) k e.now) }
     ensures notes_behind { NotesBehind e.now at notes.old notes.new result }
 {
@@ -275,9 +277,9 @@ fn read_by_head(types: &[u8], within: usize, e: &[u8], notes: &mut [u8], at: usi
 // The expression at the front of e, with its width noted.
 #[cycle(read_read_application_read_attribute_read_by_head_read_if)]
 fn read(types: &[u8], within: usize, e: &[u8], notes: &mut [u8], at: usize) -> Form
-    requires within_in_bounds { 3 * declared_in within ≤ length types.now }
-    requires e_len_bound { (length e.now ≤ expression_limit) × (at + length e.now ≤ length notes.old) }
-    ensures by_index { (k : ℕ) → length e.now ≤ k
+    requires types_within { 3 * declared_in within ≤ length types.now }
+    requires bytes_within { (length e.now ≤ expression_limit) × (at + length e.now ≤ length notes.old) }
+    ensures formed { (k : ℕ) → length e.now ≤ k
         → result ≡ form_of (attributes_in types.now (declared_in within)) (base_of (within % 256)) (read_expr (scope_of (nodes_in within) (declared_in within) (this_in within) (parameter_in within)) k e.now) }
     ensures notes { Notes e.now at notes.old notes.new result }
 {
@@ -300,8 +302,8 @@ pub fn read_whole(
     notes: &mut [u8],
     at: usize,
 ) -> Formed
-    requires attributes_in_bounds { (3 * attributes ≤ length types.now) × (attributes ≤ attribute_limit) × (nodes ≤ node_limit) }
-    requires e_in_bounds { length e.now ≤ expression_limit → at + length e.now ≤ length notes.old }
+    requires types_within { (3 * attributes ≤ length types.now) × (attributes ≤ attribute_limit) × (nodes ≤ node_limit) }
+    requires bytes_within { length e.now ≤ expression_limit → at + length e.now ≤ length notes.old }
     ensures value { result ≡ formed_of (attributes_in types.now attributes) (base_of p)
         (read_whole (scope_of nodes attributes this parameter) e.now) }
     ensures notes_whole { NotesWhole e.now at notes.old notes.new result }
@@ -328,8 +330,8 @@ fn question_noted(
     question: &[u8],
     notes: &mut [u8],
 ) -> QuestionCheck
-    requires attributes_in_bounds { (3 * attributes ≤ length types.now) × (attributes ≤ attribute_limit) × (nodes ≤ node_limit) }
-    requires question_in_bounds { length question.now ≤ expression_limit → length question.now ≤ length notes.old }
+    requires types_within { (3 * attributes ≤ length types.now) × (attributes ≤ attribute_limit) × (nodes ≤ node_limit) }
+    requires bytes_within { length question.now ≤ expression_limit → length question.now ≤ length notes.old }
     ensures { (s : Sheet) → s.attributes ≡ attributes_in types.now attributes → node_count s ≡ nodes
         → result ≡ question_of s.attributes (check_question s question.now) }
 {

@@ -1,5 +1,7 @@
 // The line that the report program prints of an answer (document 01: "It prints number, place, type, value, steps, kept"), and the parts of
 // other lines: text and numbers.
+#![tactic(auto)]
+
 ghost use Rattle.std.specs.Prelude.{[], ◌∷◌, ◌++◌, ◌≡◌, ◌+◌, ◌≤◌, ◌<◌, nat_abs, length};
 ghost use Rattle.std.proofs.lemmas.List.Edits.{sets};
 ghost use Rattle.lines.specs.Lines.{decimal, signed_decimal, line_of};
@@ -43,7 +45,7 @@ pub fn text(words: &[u8], out: &mut [u8; 128], at: usize) -> usize
 pub fn field(n: u64, mark: u8, out: &mut [u8; 128], at: usize) -> usize
     requires { at + 21 ≤ 128 }
     ensures written { Written out.old at (decimal n ++ (mark ∷ [])) out.new result }
-    ensures upper_bound { result ≤ at + 21 }
+    ensures fits { result ≤ at + 21 }
 {
     let end = digits(n, out, at);
     out[end] = mark;
@@ -60,7 +62,7 @@ fn magnitude(z: i64) -> u64
 fn signed_field(z: i64, mark: u8, out: &mut [u8; 128], at: usize) -> usize
     requires { at + 22 ≤ 128 }
     ensures written { Written out.old at (signed_decimal z ++ (mark ∷ [])) out.new result }
-    ensures upper_bound { result ≤ at + 22 }
+    ensures fits { result ≤ at + 22 }
 {
     let n = magnitude(z);
     if z < 0 {
@@ -80,9 +82,9 @@ pub fn line(
     kept: u64,
     out: &mut [u8; 128],
 ) -> usize
-    ensures value { result ≡ length (line_of record { number = number; place = place; type = code; value = value; steps = steps; kept = kept }) }
+    ensures size { result ≡ length (line_of record { number = number; place = place; type = code; value = value; steps = steps; kept = kept }) }
     ensures out_after { out.new ≡ sets out.old 0 (line_of record { number = number; place = place; type = code; value = value; steps = steps; kept = kept }) }
-    ensures upper_bound { result ≤ 127 }
+    ensures fits { result ≤ 127 }
 {
     let a = field(number, b' ', out, 0);
     let b = field(place, b' ', out, a);

@@ -1,4 +1,6 @@
 // The lines that the report program tells an operator on standard error. Document 01 has standard output alone.
+#![tactic(auto)]
+
 ghost use Rattle.std.specs.Prelude.{◌≡◌, ◌≤◌, length};
 ghost use Rattle.lines.specs.Written.{Written, Line};
 ghost use Rattle.notices.specs.Texts.{refusal, says};
@@ -18,7 +20,7 @@ pub enum Notice {
 // The line of a refused sheet is written at the front of `out`.
 fn refused(number: u32, place: usize, out: &mut [u8; 128]) -> usize
     ensures written { Written out.old 0 (refusal number place) out.new result }
-    ensures upper_bound { result ≤ 127 }
+    ensures fits { result ≤ 127 }
 {
     let a = lines::text(b"report: sheet.bin is refused: stop ", out, 0);
     if number == 1 {

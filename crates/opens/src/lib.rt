@@ -1,5 +1,7 @@
 // The open forms by the keys of their occurrences (F-9 of document 02): an index behind the forms in the memory of a run, with the buckets and the cells
 // of the store's. It is never cleared, and a form that is closed is not taken out of it (specs/Opened.antt).
+#![tactic(auto)]
+
 ghost use Rattle.std.specs.Prelude.{◌≡◌, ◌≤◌, ◌<◌, length, get_or};
 ghost use Rattle.saiga.specs.Limits.{depth_limit};
 ghost use Rattle.stores.specs.Keys.{same_key, seen_in};
@@ -62,8 +64,8 @@ fn look(memory: &[u64], forms: usize, cell: usize, key: Key) -> Seen
 // The open form with a key, below the first of its bucket, which has another. The loop sees 16 forms at most, one for each digit of the trail.
 fn find_below(memory: &[u64], forms: usize, key: Key, first: usize) -> Opening
     requires opened { Opened (forms_in memory.now) (opens_in memory.now) forms × (length memory.now ≡ run_size) × Keyed key }
-    requires key_value { seen_in (form_key (forms_in memory.now)) key (get_or (counted_in (opens_in memory.now) forms) (bucket_of key) 0) ≡ Other first }
-    ensures result_value { is_open_in result ≡ key_open (forms_in memory.now) forms key }
+    requires other { seen_in (form_key (forms_in memory.now)) key (get_or (counted_in (opens_in memory.now) forms) (bucket_of key) 0) ≡ Other first }
+    ensures found { is_open_in result ≡ key_open (forms_in memory.now) forms key }
     ensures closed_at { ClosedAt (opens_in memory.now) forms key result }
 {
     let whole = stores::trail(key);
@@ -92,7 +94,7 @@ fn find_below(memory: &[u64], forms: usize, key: Key, first: usize) -> Opening
 // Whether a form with a key is open, of the first `forms`. Most searches end at the bucket, which counts for no form.
 pub fn find(memory: &[u64], forms: usize, key: Key) -> Opening
     requires { Opened (forms_in memory.now) (opens_in memory.now) forms × (length memory.now ≡ run_size) × Keyed key }
-    ensures result_value { is_open_in result ≡ key_open (forms_in memory.now) forms key }
+    ensures found { is_open_in result ≡ key_open (forms_in memory.now) forms key }
     ensures closed_at { ClosedAt (opens_in memory.now) forms key result }
 {
     let b = stores::bucket(key);

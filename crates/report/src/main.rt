@@ -1,5 +1,7 @@
 // The report program (document 01): it reads the sheet in sheet.bin, takes questions from standard input and prints a line for each. It tells
 // on standard error what went wrong.
+#![tactic(auto)]
+
 mod system;
 mod telling;
 
@@ -58,9 +60,9 @@ struct Ending {
 
 // The line of an answer.
 fn line_of(answer: Answer, out: &mut [u8; 128]) -> usize
-    ensures value { result ≡ length (line_of (answer_of answer)) }
+    ensures size { result ≡ length (line_of (answer_of answer)) }
     ensures out_after { out.new ≡ sets out.old 0 (line_of (answer_of answer)) }
-    ensures upper_bound { result ≤ 127 }
+    ensures fits { result ≤ 127 }
 {
     match answer {
         Answer::Value(v, steps, kept) => lines::line(
@@ -144,7 +146,7 @@ fn answer<'a>(
 ) -> Answered
     requires prepared { Prepared check sheet.now index.now notes.now store.old kept links.old }
     requires line_len { length line.old ≡ 128 }
-    ensures prepared_2 { Prepared check sheet.now index.now notes.now store.new result.kept links.new }
+    ensures prepared_after { Prepared check sheet.now index.now notes.now store.new result.kept links.new }
     ensures kept_after { lent store.new result.kept ≡ after sheet.now (lent store.old kept) question.now }
     ensures line { Line line.new result.line (line_of (called sheet.now (lent store.old kept) (asks question.now)).answer) }
 {
@@ -161,7 +163,7 @@ fn answer<'a>(
 // what comes stands after them.
 fn fetch(input: &mut [u8], s: State) -> State
     requires within { Within input.old s }
-    requires in_bounds { 65537 ≤ length input.old }
+    requires room { 65537 ≤ length input.old }
     ensures { Fetched input.old input.new s result }
 {
     let from = s.from;
@@ -201,12 +203,12 @@ fn turn<'a>(
     requires prepared { Prepared check sheet.now index.now notes.now store.old s.kept links.old }
     requires within { Within input.now s }
     requires line_len { length line.old ≡ 128 }
-    ensures prepared_2 { Prepared check sheet.now index.now notes.now store.new result.kept links.new }
-    ensures within_2 { Within input.now result }
-    ensures result_after { view_of input.now store.new result
+    ensures prepared_after { Prepared check sheet.now index.now notes.now store.new result.kept links.new }
+    ensures within_after { Within input.now result }
+    ensures turned { view_of input.now store.new result
         ≡ turned sheet.now (view_of input.now store.old s) (chunk_of input.now s) }
     ensures line { Line line.new result.line (lines (given sheet.now (view_of input.now store.old s))) }
-    ensures failed_value { result.failed ≡ s.failed }
+    ensures failed_same { result.failed ≡ s.failed }
 {
     let from = s.from;
     let to = s.to;
@@ -302,11 +304,11 @@ fn run(
     memory: &mut [u64; RUN_SIZE],
 ) -> Ending
     requires prepared { Prepared check sheet.now index.now notes.now store.old 0 links.old }
-    requires store_value { lent store.old 0 ≡ empty entry_limit }
-    requires in_bounds { 65537 ≤ length input.old }
+    requires store_empty { lent store.old 0 ≡ empty entry_limit }
+    requires room { 65537 ≤ length input.old }
     ensures ran { Ran sheet.now (view_of input.new store.new result.state) result.left result.written }
     ensures within { Within input.new result.state }
-    ensures ended_value { result.state.failed ≡ true → result.state.ended ≡ true }
+    ensures failed_ends { result.state.failed ≡ true → result.state.ended ≡ true }
 {
     let mut s = State {
         from: 0,

@@ -37,7 +37,7 @@ fn again() -> bool {
 fn read_once(fd: i32, bytes: &mut [u8], at: usize) -> isize
     requires { at ≤ length bytes.old }
     ensures moved { Moved (length bytes.old - at) result }
-    ensures bytes_unchanged { take at bytes.new ≡ take at bytes.old }
+    ensures front_same { take at bytes.new ≡ take at bytes.old }
 {
     libc::read(fd, &mut bytes[at..])
 }
@@ -46,7 +46,7 @@ fn read_once(fd: i32, bytes: &mut [u8], at: usize) -> isize
 fn read_at(fd: i32, bytes: &mut [u8], at: usize) -> isize
     requires { at ≤ length bytes.old }
     ensures moved { Moved (length bytes.old - at) result }
-    ensures bytes_unchanged { take at bytes.new ≡ take at bytes.old }
+    ensures front_same { take at bytes.new ≡ take at bytes.old }
 {
     let mut tries = u64::MAX;
     while tries > 0 {
@@ -108,9 +108,9 @@ pub fn size_of(file: SheetFile) -> usize
 // What standard input brings, put into the bytes from `at` on, for which there is room; a read that fails brings nothing.
 pub fn read_input(bytes: &mut [u8], at: usize) -> Brought
     requires { at < length bytes.old }
-    ensures came_in_bounds { at + result.came ≤ length bytes.old }
-    ensures bytes_unchanged { take at bytes.new ≡ take at bytes.old }
-    ensures came_value { result.failed ≡ true → result.came ≡ 0 }
+    ensures within { at + result.came ≤ length bytes.old }
+    ensures front_same { take at bytes.new ≡ take at bytes.old }
+    ensures failed_brings { result.failed ≡ true → result.came ≡ 0 }
 {
     let got = read_at(STDIN_FILENO, bytes, at);
     if got < 0 {

@@ -1,4 +1,6 @@
 // A move of the machine, and the run: moves until it ends or a counted step is due at a limit (document 01, "The steps").
+#![tactic(auto)]
+
 ghost use Rattle.std.specs.Prelude.{true, List, ◌≡◌, ℕ, ◌+◌, ◌-◌, ◌^◌, ◌≤◌, ◌<◌, length, get_or};
 ghost use Rattle.std.proofs.Math.Option.{some};
 ghost use Rattle.saiga.specs.Limits.{budget_limit};
@@ -36,8 +38,8 @@ fn give_if(notes: &[u8], e: &[u8], memory: &mut [u64], limits: Limits, m: Regist
     ensures passes { Passes e.now (λ skip. (store : List ℕ)
         → stepped_of result (memory_of store memory.new)
         ≡ within limits.budget limits.pause m (take_if skip (memory_of store memory.old) m (truth m.value))) }
-    ensures by_index { (store : List ℕ) → Still result (memory_of store memory.old) (memory_of store memory.new) }
-    ensures memory_unchanged { opens_in memory.new ≡ opens_in memory.old }
+    ensures still { (store : List ℕ) → Still result (memory_of store memory.old) (memory_of store memory.new) }
+    ensures opens_same { opens_in memory.new ≡ opens_in memory.old }
 {
     if limits.budget <= m.steps {
         return Step::Stops(15);
@@ -97,7 +99,7 @@ fn give<'a>(
     m: Registers,
 ) -> Step
     requires move_ready { MoveReady sheet.now index.now notes.now question.now store.old links.old memory.old m }
-    requires returning_value { (m.returning ≡ true) × (0 < m.frames) × (limits.budget ≤ budget_limit) × RowsWithin limits.budget tally.old }
+    requires returning { (m.returning ≡ true) × (0 < m.frames) × (limits.budget ≤ budget_limit) × RowsWithin limits.budget tally.old }
     ensures gives_to { GivesTo sheet.now index.now question.now limits.budget limits.pause
         (memory_of store.old memory.old) (memory_of store.new memory.new) links.new
         (opens_in memory.new) m (get_or memory.old (m.frames - 1) 0) result }
@@ -181,7 +183,7 @@ pub fn run<'a>(
 ) -> RunEnd
     requires running { Running sheet.now index.now notes.now question.now limits.budget store.old links.old memory.old first }
     requires rows_within { RowsWithin first.steps tally.old }
-    ensures by_index { (lent : List ℕ) (kept : ℕ) (whole : Ended)
+    ensures ran { (lent : List ℕ) (kept : ℕ) (whole : Ended)
         → Invariant sheet.now index.now question.now limits.budget lent kept whole
         (memory_of store.old memory.old) first
         → RunsTo sheet.now index.now notes.now question.now limits.budget limits.pause lent kept whole first.steps

@@ -1,5 +1,7 @@
 // The types that the engine's code and the definitions of specs/ share: the values of document 01, "Values and functions", and the numbers of
 // an entry.
+#![tactic(auto)]
+
 pub mod limits;
 
 // The functions by their codes 0 to 5.

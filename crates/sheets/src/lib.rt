@@ -1,5 +1,7 @@
 // The check of a sheet, which fills the sheet's index and notes the widths of its expressions: stops 1 to 8 (document 01, "The sheet" and "Stops by
 // origin").
+#![tactic(auto)]
+
 pub mod lookup;
 
 ghost use Rattle.std.specs.Prelude.{◌≡◌, List, ℕ, suc, ◌+◌, ◌-◌, ◌≤◌, ◌<◌, length};
@@ -364,7 +366,7 @@ fn first_gap(sheet: &[u8], index: &[u16], attributes: usize, nodes: usize) -> Ga
 
 // The pass for missing pairs. The index of a sheet that passes gets the numbers of attributes and nodes.
 fn complete(sheet: &[u8], index: &mut [u16], p: Progress) -> SheetCheck
-    requires by_index { (n : ℕ) → n < p.nodes → Declared sheet.now index.old p.attributes n }
+    requires declared { (n : ℕ) → n < p.nodes → Declared sheet.now index.old p.attributes n }
     requires reading { Reading sheet.now p × (length index.old ≡ index_size) }
     ensures { scan_of result index.new
         ≡ scanned p index.old (missing_in sheet.now index.old p.attributes p.nodes) }

@@ -1,4 +1,6 @@
 // What others link: the calls of the engine as C functions, on numbers and byte slices. A slice is a pointer and then a length.
+#![tactic(auto)]
+
 ghost use Rattle.std.specs.Prelude.{◌∷◌, ◌≡◌, min, length};
 ghost use Rattle.saiga.specs.Limits.{sheet_limit};
 ghost use Rattle.saiga.specs.Ask.{lent, asking, check_call, ask};
@@ -262,7 +264,7 @@ pub extern "C" fn sofretu_ask_checked<'a>(
     ensures answer_after { answer.new ≡ six (ask sheet.now (lent store.old kept) (asking question.now budget)).answer }
     ensures tally_after { tally.new ≡ (ask sheet.now (lent store.old kept) (asking question.now budget)).tally }
     ensures store_after { store.new ≡ (ask sheet.now (lent store.old kept) (asking question.now budget)).store }
-    ensures prepared_store_2 { PreparedStore sheet.now store.new
+    ensures prepared_after { PreparedStore sheet.now store.new
         (ask sheet.now (lent store.old kept) (asking question.now budget)).answer.kept links.new }
     ensures run_scratch { RunScratch (check_call sheet.now (lent store.old kept) (asking question.now budget))
         memory.old memory.new }

@@ -1,4 +1,6 @@
 // The store: its checks, and an index over the kept entries, by which an occurrence is found (document 01, "The steps", stops 9 and 10).
+#![tactic(auto)]
+
 ghost use Rattle.std.specs.Prelude.{[], ◌≡◌, ◌+◌, ◌*◌, ◌%◌, ◌≤◌, ◌<◌, length, take, drop, get_or};
 ghost use Rattle.std.proofs.Math.Option.{none};
 ghost use Rattle.values.specs.Layout.{attributes_in};
@@ -183,8 +185,8 @@ fn look(store: &[u8], index: &[u16], cell: usize, key: Key) -> Seen
 // The entry with a key, below the first of its bucket, which has another. The loop sees 16 entries at most, one for each digit of the trail.
 fn find_below(store: &[u8], kept: usize, index: &[u16], key: Key, first: usize) -> Found
     requires linked { Linked store.now kept index.now × Keyed key }
-    requires key_value { seen_in (key_at store.now) key (get_or index.now (bucket_of key) 0) ≡ Other first }
-    ensures result_value { found_of result ≡ find_key store.now kept key }
+    requires other { seen_in (key_at store.now) key (get_or index.now (bucket_of key) 0) ≡ Other first }
+    ensures found { found_of result ≡ find_key store.now kept key }
     ensures free_in { FreeIn index.now key result }
 {
     let whole = trail(key);
@@ -213,7 +215,7 @@ fn find_below(store: &[u8], kept: usize, index: &[u16], key: Key, first: usize) 
 // The entry with a key among the first `kept`. Most walks end at the first entry of the bucket, for which no trail is worked out.
 pub fn find(store: &[u8], kept: usize, index: &[u16], key: Key) -> Found
     requires { Linked store.now kept index.now × Keyed key }
-    ensures result_value { found_of result ≡ find_key store.now kept key }
+    ensures found { found_of result ≡ find_key store.now kept key }
     ensures free_in { FreeIn index.now key result }
 {
     let b = bucket(key);
@@ -372,7 +374,7 @@ pub fn fields_for(key: Key, value: Value) -> Fields
 
 // Entry `kept` is written, and put into the index at the free cell of its key.
 pub fn append(store: &mut [u8], kept: usize, index: &mut [u16], e: Fields, cell: usize)
-    requires kept_lt_entry_limit { (kept < entry_limit) × (entry_width * kept + entry_width ≤ length store.old) × Linked store.old kept index.old }
+    requires room { (kept < entry_limit) × (entry_width * kept + entry_width ≤ length store.old) × Linked store.old kept index.old }
     requires keyed { Keyed (key_in e) × (find_key store.old kept (key_in e) ≡ none) × Free index.old (key_in e) cell }
     ensures { EntryPut store.old kept e store.new index.new }
 {

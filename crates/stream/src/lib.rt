@@ -1,4 +1,6 @@
 // The questions on standard input (document 01: "each as length (2) and bytes").
+#![tactic(auto)]
+
 ghost use Rattle.std.specs.Prelude.{◌≡◌, ◌-◌, ◌≤◌, ◌<◌, length, take, drop};
 ghost use Rattle.stream.specs.Stream.{front};
 ghost use Rattle.stream.specs.Next.{next_of};
@@ -23,7 +25,7 @@ fn part(ended: bool) -> Next
 // What comes next, of the bytes at hand. Where it is more, a buffer of 65,537 bytes has room for it.
 pub fn next_item(bytes: &[u8], ended: bool) -> Next
     ensures value { result ≡ next_of (front bytes.now) ended }
-    ensures bytes_len_bound { result ≡ Next.More → length bytes.now < 65537 }
+    ensures more_fits { result ≡ Next.More → length bytes.now < 65537 }
 {
     if bytes.len() == 0 {
         if ended {

@@ -1,4 +1,6 @@
 // The function layer and the four-byte form of values (document 01, "Values and functions").
+#![tactic(auto)]
+
 pub mod packed;
 
 ghost use Rattle.std.specs.Prelude.{◌≡◌, true, ◌+◌, ◌*◌, ◌%◌, ◌≤◌, ◌<◌, ◌+ℤ◌, ◌-ℤ◌, length, take, drop, get_or};
