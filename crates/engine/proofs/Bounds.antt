@@ -290,7 +290,7 @@ unfolding measure
 move-falls z below n = let k = (next-on n).cost in omega (arith, k, frames-fit z, (next-on n).fit)
 
 -- and so is any number of moves
-pub moves-cost : {s : Sheet} {capacity budget n : ℕ} {first m : Machine} → Moves s capacity budget first n m
+pub moves-cost : {s : Sheet} {capacity budget : ℕ} {first : Machine} {n : ℕ} {m : Machine} → Moves s capacity budget first n m
     → (n + credits m.frames + mode_credit m.mode + 3 * length first.frames + 6 * first.steps
     ≤ credits first.frames + mode_credit first.mode + 3 * length m.frames + 6 * m.steps)
 moves-cost at_first = omega arith

@@ -19,13 +19,13 @@ use Rattle.engine.proofs.Loop.{question-short}
 
 -- ---- Any part of a run
 
-sized-after : {s : Sheet} {capacity budget n : ℕ} {first m : Machine} → Pieces s → Sized s first → Moves s capacity budget first n m → Sized s m
+sized-after : {s : Sheet} {capacity budget : ℕ} {first : Machine} {n : ℕ} {m : Machine} → Pieces s → Sized s first → Moves s capacity budget first n m → Sized s m
 sized-after rules sized at_first = sized
 sized-after rules sized (and_then k next) =
     let now = sized-after rules sized k in
     record { good = good-on _ _ _ rules now.good next; small = small-on rules now.good now.small next; few = forms-on now.few next }
 
-steps-after : {s : Sheet} {capacity budget n : ℕ} {first m : Machine} → Moves s capacity budget first n m → first.steps ≤ budget
+steps-after : {s : Sheet} {capacity budget : ℕ} {first : Machine} {n : ℕ} {m : Machine} → Moves s capacity budget first n m → first.steps ≤ budget
     → (first.steps ≤ m.steps) × (m.steps ≤ budget)
 steps-after at_first h = (omega arith, h)
 steps-after (and_then k next) h = let (low, high) = steps-after k h in let (more, within) = steps_on next high in (omega arith, within)

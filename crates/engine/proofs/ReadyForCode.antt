@@ -153,7 +153,7 @@ module _ {sheet index question : List ℕ} {store : List ℕ} (run : List ℕ) {
           let fits = head-fits (rw is at good.0) in
           record {
             some = omega arith;
-            operand = width_fits _ l (head_of c) fits;
+            operand = width_fits (scope_in (s run r) (open_forms (frames run r))) l (head_of c) fits;
             inside = omega (arith, ap length is, rest-reaches run r);
             size = size;
             room = frames-inside run r;
