@@ -391,10 +391,10 @@ pub forms-opened : (r : Step) (m : Registers) (forms opens : List ℕ) → forms
 forms-opened r m forms opens same opened = rw same opened
 
 pub found-still : (r : Step) (mem : Memory) → Still r mem mem
-found-still (Goes after) mem = tt
-found-still Waits mem = refl
-found-still Finishes mem = refl
-found-still (Stops number) mem = refl
+found-still (Goes after) _ = tt
+found-still Waits _ = refl
+found-still Finishes _ = refl
+found-still (Stops number) _ = refl
 
 -- A kept value is read within the store, and is one of its type.
 pub found-ready : (sheet index store links run : List ℕ) (m : Registers) (q : Key) → AttributeReady sheet index store links run m q.node q.attribute

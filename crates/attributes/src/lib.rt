@@ -147,6 +147,7 @@ fn open_rule(sheet: &[u8], index: &[u16], memory: &mut [u64], m: Registers, key:
 
 // AttrApp of an occurrence that has a figure and is not kept: the limits, then the figure, which is kept at once in the free cell of the store's index. It
 // needs room for a form, though none stays open.
+#[tactic(auto, unfolding(engine::specs::CodeSteps::kept_after, engine::specs::CodeSteps::forms_after))]
 fn take_figure(
     store: &mut [u8],
     links: &mut [u16],
@@ -179,6 +180,7 @@ fn take_figure(
 
 // AttrApp of an occurrence that has no figure and is not kept: a circle, the limits, then the rule or the forward, whose form is put into its free place in
 // the index of the open forms.
+#[tactic(auto, unfolding(engine::specs::CodeSteps::kept_after, engine::specs::CodeSteps::forms_after))]
 fn take_rule(
     sheet: &[u8],
     index: &[u16],
@@ -286,6 +288,7 @@ fn take_attribute(
 }
 
 // AttrApp is due with the node and the attribute that the frame's word holds: null, then what the store has of it.
+#[tactic(auto, unfolding(engine::specs::CodeSteps::kept_after, engine::specs::CodeSteps::forms_after))]
 pub fn attribute_due(
     sheet: &[u8],
     index: &[u16],

@@ -1,7 +1,6 @@
 -- Every move keeps the open forms apart: a form opens where its occurrence is neither open nor kept, and what is kept then is of an occurrence that is
 -- not open.
 use mathlib.Core.Bool.{Bool, true, false, ◌||◌, false≢true}
-use mathlib.Core.Bool as Bool
 use mathlib.Core.Option.{Option, none, some}
 use mathlib.Core.List.{List, [], ◌∷◌}
 use mathlib.Core.Path.{◌≡◌, refl, sym, ◌∙◌}

@@ -17,7 +17,7 @@ use Rattle.saiga.specs.Values.{node_t, base, null, node_of, base_of, of_bytes, o
 use Rattle.saiga.specs.declared.Value.{Value}
 use Rattle.saiga.specs.Types.{attribute_at}
 use Rattle.saiga.specs.Sheet.{Sheet, node_count, attribute_count, Definition, figure, piece_of, forward_of, forwarded, ruled, figured, definition, accepted}
-use Rattle.saiga.specs.Terms.{Occurrence, val, cond, attr, form}
+use Rattle.saiga.specs.Terms.{Occurrence, val, attr}
 use Rattle.saiga.specs.Plain.{on_null}
 use Rattle.saiga.specs.Caching.{Entry, kept, write, AttrApp, as_plain, circle, spent, depth, is_open, circular, too_deep}
 use Rattle.saiga.proofs.Depth.{not-circular-kept, not-circular-closed, circular-open, not-deep-kept, not-deep-few, deep-missing}

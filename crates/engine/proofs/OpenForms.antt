@@ -1,7 +1,6 @@
 -- The open forms, by the frames of the machine and by the numbers in memory: their occurrences are the sheet's, and one of them is of an occurrence
 -- exactly if one of them has its key.
 use mathlib.Core.Bool.{Bool, true, false, false≢true}
-use mathlib.Core.Bool as Bool
 use mathlib.Core.List.{List, [], ◌∷◌}
 use mathlib.Core.Path.{◌≡◌, refl, sym, ◌∙◌, ap}
 use Prim.Native.Nat.{ℕ, zero, suc, ◌+◌, ◌*◌, ◌-◌, ◌<◌}

@@ -13,7 +13,7 @@ use Rattle.saiga.specs.declared.Value.{Value}
 use Rattle.saiga.specs.declared.Value.TheVariants.{Unit as unit}
 use Rattle.saiga.specs.Expressions.{Expr, Head, base_literal, function_literal, if_head, application_head, attribute_head, this_head, parameter_head, no_head, head_of}
 use Rattle.saiga.specs.Sheet.{Sheet, rule_scope, Definition, undefined, figure, piece_of, forward_of, definition, whole_expr, definition_expr, context}
-use Rattle.saiga.specs.Terms.{Occurrence, val, cond, app, attr, form, put}
+use Rattle.saiga.specs.Terms.{Occurrence, val, app, attr, form, put}
 use Rattle.saiga.specs.Plain.{on_null, by_overflow}
 use Rattle.saiga.specs.Caching.{Entry, Running, kept, write, Counted, CondTrue, CondFalse, AppApp, AttrApp, as_plain, circle, spent, depth, Due, finished, counts, writes, halts, due_part, count, cond_rule, app_app, kept_or, circular, too_deep, attr_app, due, State, with_value, by, Ended, due_at}
 use Rattle.saiga.specs.Runs.{Runs, Traces}

@@ -21,7 +21,7 @@ use stores::{BUCKETS, FAN_OUT};
 
 // The machine's state by value: whether a value is being returned, the rest of the running piece from `at` to `end`, the numbers of
 // frames, open forms, kept entries and counted steps, and the value.
-#[derive(Drop)]
+#[derive(Clone, Copy)]
 pub struct Registers {
     pub returning: bool,
     pub at: usize,
@@ -34,14 +34,14 @@ pub struct Registers {
 }
 
 // How far a run may go: the counted steps that it has in all, and the count at which it pauses.
-#[derive(Drop)]
+#[derive(Clone, Copy)]
 pub struct Limits {
     pub budget: usize,
     pub pause: usize,
 }
 
 // What a move comes to: registers to go on with; a counted step is due at the limit; the value is the run's; or a stop's number.
-#[derive(Drop)]
+#[derive(Clone, Copy)]
 pub enum Step {
     Goes(Registers),
     Waits,

@@ -6,4 +6,3 @@ pub mod Questions
 pub mod TypeNumbers
 pub mod Wholes
 pub mod Widths
-pub mod Within

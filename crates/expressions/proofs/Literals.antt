@@ -2,7 +2,7 @@
 use mathlib.Core.Bool.{true, false}
 use mathlib.Core.List.{List, [], ◌∷◌}
 use mathlib.Core.Path.{◌≡◌, refl}
-use Prim.Native.Nat.{ℕ, zero, suc, ◌+◌, ◌*◌, ◌-◌, ◌≤◌, ◌<◌}
+use Prim.Native.Nat.{ℕ, ◌+◌, ◌*◌, ◌-◌, ◌≤◌, ◌<◌}
 use native.Mathlib.Omega.{arith}
 use lib.ListN.{length, take, drop, get_or}
 use lib.Seq.{get_or-drop}
@@ -145,3 +145,16 @@ module _ (s : Scope) (sig : List Attribute) (p : Base) (k : ℕ) (l : List ℕ) 
   pub no-head-refused : Malformed ≡ form_after s sig p k no_head l
   unfolding form_of read_after
   no-head-refused = refl
+
+-- The operands of Bool, Node and functions, for the functions that read them.
+pub ruleset operand_laws = (
+  operand_short,
+  bool-reads,
+  bool-refused,
+  declared-reads,
+  null-reads,
+  node-refused,
+  function-short,
+  function-reads,
+  function-refused,
+)

@@ -4,7 +4,7 @@ use mathlib.Core.Path.{◌≡◌, refl, sym, ap, ◌∙◌}
 use Prim.Native.Nat.{ℕ, zero, suc, ◌+◌, ◌-◌, ◌≤◌, ◌<◌}
 use native.Mathlib.Nat.{add-zero, sub-zero}
 use native.Mathlib.Omega.{arith}
-use lib.ListN.{length, take, drop, get_or, set, length-drop}
+use lib.ListN.{length, drop, get_or, set, length-drop}
 use lib.Seq.{drop-drop, get_or-drop, get_or-set_same, get_or-set_other}
 use borrow.Author.Rules.{part_to_end}
 use Rattle.saiga.specs.Values.{Base}
@@ -13,9 +13,8 @@ use Rattle.saiga.specs.Types.{Attribute}
 use Rattle.saiga.proofs.Reading.{read-width}
 use Rattle.expressions.specs.declared.Form.{Form}
 use Rattle.expressions.specs.declared.Form.TheVariants.{Malformed, Reads}
-use Rattle.expressions.specs.declared.Formed.TheVariants.{NoExpression, Expression}
 use Rattle.expressions.specs.Widths.{head_width, following}
-use Rattle.expressions.specs.Noted.{WidthOf, front_width, Noted, all_noted, front_noted, Before, NotedAs, Notes, NotedInside, NotesInside, NotesBehind, NotesWhole}
+use Rattle.expressions.specs.Noted.{WidthOf, front_width, Noted, all_noted, front_noted, Before, Notes, NotesInside, NotesBehind}
 use Rattle.expressions.proofs.Passing.{Passes, none, more, passes-within, Opened, open-head, width_small}
 use Rattle.expressions.proofs.Composites.{FormAt, form-reads, from}
 use Rattle.expressions.proofs.Widths.{width_of}
@@ -96,9 +95,6 @@ module _ (s : Scope) (sig : List Attribute) (p : Base) where
       let (e, q, n) = form-reads s sig p (read_expr s (length (c ∷ l)) (c ∷ l)) (sym (f (length (c ∷ l)) (omega arith))) in
       open-head (more q none)
 
-  pub form-is : (l : List ℕ) {r q : Form} → FormAt s sig p l r → r ≡ q → FormAt s sig p l q
-  form-is l f e = rw e at f
-
   -- A head with its operand alone: nothing stands behind it.
   nothing-behind : {n : ℕ} {l : List ℕ} {v : ℕ} → Passes s n l v → n ≡ 0 → v ≡ 0
   nothing-behind none z = refl
@@ -137,16 +133,6 @@ module _ (s : Scope) (sig : List Attribute) (p : Base) where
         noted = rw all at (front_noted {l = l} {notes = drop at own} (rw (first, wide) (form-widths l form)) rest);
       }
 
--- no expression is read
-pub no-notes : (l : List ℕ) (at : ℕ) {notes notes' : List ℕ} {r : Form} → NotesBehind l at notes notes' r → Notes l at notes notes' Malformed
-no-notes l at inside = record { before = λ i h. inside.before i (omega arith); noted = tt }
-
-pub no-notes-behind : (l : List ℕ) (at : ℕ) (notes : List ℕ) → NotesBehind l at notes notes Malformed
-no-notes-behind l at notes = record { before = λ i h. refl; noted = tt }
-
-pub nothing_read : (n : ℕ) (l : List ℕ) (at : ℕ) (notes : List ℕ) → NotesInside n l at notes notes Malformed
-nothing_read n l at notes = record { before = λ i h. refl; noted = tt }
-
 -- ---- One expression after the other
 
 -- two rows that are read one after the other
@@ -160,21 +146,10 @@ both-noted l at m n notes notes₁ notes₂ a first b second = (
       (rw (drop-drop m at notes₂) second),
 )
 
--- what is left where the reading stops
-stopped-notes : (n : ℕ) (l : List ℕ) (at : ℕ) {notes notes' : List ℕ} → Before at notes notes' → NotesInside n l at notes notes' Malformed
-stopped-notes n l at b = record { before = b; noted = tt }
-
 module _ (l : List ℕ) (at : ℕ) {notes notes₁ : List ℕ} {q : Form} (first : Notes l at notes notes₁ q) where
-  -- the first of the expressions inside
-  pub first_stops : q ≡ Malformed → NotesInside 1 l at notes notes₁ Malformed
-  first_stops e = stopped-notes 1 l at first.before
-
   module _ {m t : ℕ} {notes₂ : List ℕ} {r : Form} (e : q ≡ Reads m t) (second : Notes (from l m) (at + m) notes₁ notes₂ r) where
     first-noted : Noted l (drop at notes₁) m
     first-noted = rw e at first.noted
-
-    pub second-stops : r ≡ Malformed → NotesInside 1 l at notes notes₂ Malformed
-    second-stops d = stopped-notes 1 l at (λ i h. second.before i (omega arith) ∙ first.before i h)
 
     both : {n u : ℕ} → r ≡ Reads n u → Before at notes notes₂ × Noted l (drop at notes₂) (m + n)
     both {n} d = both-noted l at m n notes notes₁ notes₂ first.before first-noted second.before (rw (d, part_to_end l m) at second.noted)
@@ -186,9 +161,6 @@ module _ (l : List ℕ) (at : ℕ) {notes notes₁ : List ℕ} {q : Form} (first
         record { before = b; noted = rw w row }
 
     module _ {n u : ℕ} {notes₃ : List ℕ} {o : Form} (d : r ≡ Reads n u) (third : Notes (from l (m + n)) (at + (m + n)) notes₂ notes₃ o) where
-      pub third-stops : o ≡ Malformed → NotesInside 1 l at notes notes₃ Malformed
-      third-stops b = stopped-notes 1 l at (λ i h. third.before i (omega arith) ∙ (both d).0 i h)
-
       pub three-noted : {w x v : ℕ} → o ≡ Reads w x → NotesInside 1 l at notes notes₃ (Reads (1 + m + n + w) v)
       three-noted {w} b =
           let (before, row) = both-noted l at (m + n) w notes notes₂ notes₃ (both d).0 (both d).1 third.before (rw (b, part_to_end l (m + n)) at third.noted) in
@@ -200,13 +172,7 @@ module _ (l : List ℕ) (at : ℕ) {notes notes₁ : List ℕ} {q : Form} (first
   node-first : Notes (drop 1 l) (at + 1) notes notes₁ q
   node-first = rw (part_to_end l 1) at first
 
-  pub node-stops : q ≡ Malformed → NotesInside 2 (drop 1 l) (at + 1) notes notes₁ Malformed
-  node-stops e = stopped-notes 2 (drop 1 l) (at + 1) first.before
-
   module _ {m t : ℕ} {notes₂ : List ℕ} {r : Form} (e : q ≡ Reads m t) (second : Notes (from l (1 + m)) (at + (1 + m)) notes₁ notes₂ r) where
-    pub parameter-stops : r ≡ Malformed → NotesInside 2 (drop 1 l) (at + 1) notes notes₂ Malformed
-    parameter-stops d = stopped-notes 2 (drop 1 l) (at + 1) (λ i h. second.before i (omega arith) ∙ first.before i h)
-
     pub node-noted : {n u v : ℕ} → r ≡ Reads n u → NotesInside 2 (drop 1 l) (at + 1) notes notes₂ (Reads (2 + m + n) v)
     node-noted {n} d =
         let place : at + (1 + m) ≡ at + 1 + m = omega arith in
@@ -235,15 +201,3 @@ module _ (e : List ℕ) (at : ℕ) {notes notes' : List ℕ} {r : Form} where
   attribute-behind is inside =
       let place : at + 1 + 1 ≡ at + 2 = omega arith in
       behind 2 (rw is) (rw (part_to_end e 1, drop-drop 1 1 e, place) at inside)
-
--- ---- The bytes as a whole
-
-pub unread-notes : (l : List ℕ) (at : ℕ) (notes : List ℕ) → NotesWhole l at notes notes NoExpression
-unread-notes l at notes = record { before = λ i h. refl; noted = tt }
-
-module _ (l : List ℕ) (at : ℕ) {notes notes' : List ℕ} {r : Form} (read : Notes l at notes notes' r) where
-  pub part-notes : NotesWhole l at notes notes' NoExpression
-  part-notes = record { before = read.before; noted = tt }
-
-  pub whole-notes : {w t : ℕ} → r ≡ Reads w t → w ≡ length l → NotesWhole l at notes notes' (Expression t)
-  whole-notes e all = record { before = read.before; noted = rw (e, all) at read.noted }

@@ -1,13 +1,12 @@
 -- Passing over expressions one after the other: what stands inside an expression takes the place of the expression, behind its head.
-use mathlib.Core.Bool.{Bool, true, false, cond}
+use mathlib.Core.Bool.{Bool, true, false}
 use mathlib.Core.List.{List, ◌∷◌}
 use mathlib.Core.Path.{◌≡◌, refl, ◌∙◌}
 use Prim.Native.Nat.{ℕ, zero, suc, ◌+◌, ◌-◌, ◌/◌, ◌%◌, ◌≤◌, ◌<◌}
 use native.Mathlib.Omega.{arith}
-use lib.Dec.{eqb, lit<}
+use lib.Dec.{lit<}
 use lib.ListN.{length, drop, get_or, length-drop}
 use lib.Seq.{drop-cons, drop-drop}
-use borrow.Author.Tests.{ne_eqb}
 use Rattle.saiga.specs.Values.{unit_t, bool_t, int_t, node_t}
 use Rattle.saiga.specs.Expressions.{Expr, Scope, Head, base_literal, function_literal, if_head, application_head, attribute_head, this_head, parameter_head, no_head, head_of, operand_width, Reading, malformed, reads, ◌followed_by◌, whenever, read_operand, read_after, read_expr}
 use Rattle.saiga.proofs.Reading.{read-fuel, read-width}
@@ -118,20 +117,6 @@ shape-parts h = let small = width_small h in (omega arith, omega arith)
 
 pub shape-moves : (h : Head) {r : ℕ} → r ≡ shape_of h → 0 < r % 8
 shape-moves h e = rw (e, (shape-parts h).0) (width_small h).0
-
--- The heads that `head_shape` does not name: 0x10, 0x30, 0x31, and bytes that are no head.
-pub other-shape : (c : ℕ) → (c ≡ 0x11 → ⊥) → (c ≡ 0x12 → ⊥) → (c ≡ 0x13 → ⊥) → (c ≡ 0x14 → ⊥) → (c ≡ 0x20 → ⊥) → (c ≡ 0x21 → ⊥) → (c ≡ 0x22 → ⊥)
-    → shape_of (head_of c) ≡ 1
-unfolding shape_of head_of
-other-shape c a b d e f g h =
-    rw (ne_eqb c 0x11 a, ne_eqb c 0x12 b, ne_eqb c 0x13 d, ne_eqb c 0x14 e, ne_eqb c 0x20 f, ne_eqb c 0x21 g, ne_eqb c 0x22 h)
-    (go (eqb c 0x10) (eqb c 0x30) (eqb c 0x31))
-  where
-    go : (p q r : Bool) → shape_of (cond p (base_literal unit_t) (cond q this_head (cond r parameter_head no_head))) ≡ 1
-    go true q r = refl
-    go false true r = refl
-    go false false true = refl
-    go false false false = refl
 
 -- ---- The loop
 

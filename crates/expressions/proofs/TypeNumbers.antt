@@ -3,11 +3,9 @@ use mathlib.Core.Bool.{Bool, true, false, cond}
 use mathlib.Core.List.{List}
 use mathlib.Core.Option.{Option, none, some}
 use mathlib.Core.Path.{◌≡◌, refl, sym, ap, ◌∙◌}
-use Prim.Native.Nat.{ℕ, zero, suc, ◌+◌, ◌*◌, ◌-◌, ◌/◌, ◌%◌, ◌≤◌, ◌<◌}
+use Prim.Native.Nat.{ℕ, ◌+◌, ◌*◌, ◌-◌, ◌/◌, ◌%◌, ◌≤◌, ◌<◌}
 use native.Mathlib.Omega.{arith}
 use lib.Dec.{ltb, eqb}
-use lib.ListN.{length, drop, get_or}
-use lib.Seq.{get_or-drop}
 use borrow.Author.Tests.{eqb-true, eqb-false, lt-ltb, le-ltb, eq-eqb, ne_eqb}
 use Rattle.saiga.specs.Values.{Base, unit_t, bool_t, int_t, node_t, base_code, base_of, Ty, base, ◌⇒◌}
 use Rattle.saiga.specs.Types.{attribute_at, same_base, same_ty, given, infer_if, infer_application}
@@ -105,3 +103,6 @@ attribute-number l m a N X h p q =
     rw (p, q, attribute-at l m a h)
     (given-number (base node_t) N _
     ∙ ap (λ m. cond (eqb 4 (inferred_number N)) m 0) (given-number (base (base_of (parameter_at l a))) X _))
+
+-- What the code's tests come to, for the functions of numbers.rt.
+pub ruleset number_laws = (if-number, application-number, attribute-number)

@@ -111,6 +111,7 @@ fn nodes_in(within: usize) -> usize
 // ---- The readers
 
 // The operand of a Bool: 0 or 1. The bytes l are those after the head, here and below.
+#[tactic(auto, using(crate::proofs::Literals::operand_laws))]
 fn read_bool(l: &[u8]) -> Form
     ensures { (s : Scope) (sig : List Attribute) (p : Base) (k : ℕ)
         → result ≡ form_after s sig p k (base_literal bool_t) l.now }
@@ -126,6 +127,7 @@ fn read_bool(l: &[u8]) -> Form
 }
 
 // The operand of a Node: a declared one, or null.
+#[tactic(auto, using(crate::proofs::Literals::operand_laws))]
 fn read_node(nodes: usize, l: &[u8]) -> Form
     ensures { (s : Scope) (sig : List Attribute) (p : Base) (k : ℕ) → s.nodes ≡ nodes
         → result ≡ form_after s sig p k (base_literal node_t) l.now }
@@ -145,6 +147,7 @@ fn read_node(nodes: usize, l: &[u8]) -> Form
 }
 
 // The operand of a function: its code.
+#[tactic(auto, using(crate::proofs::Literals::operand_laws))]
 fn read_function(l: &[u8]) -> Form
     ensures { (s : Scope) (sig : List Attribute) (p : Base) (k : ℕ)
         → result ≡ form_after s sig p k function_literal l.now }
@@ -161,7 +164,7 @@ fn read_function(l: &[u8]) -> Form
 }
 
 // The three expressions of an IF.
-#[cycle(read_read_application_read_attribute_read_by_head_read_if)]
+#[cycle(reading)]
 fn read_if(types: &[u8], within: usize, l: &[u8], notes: &mut [u8], at: usize) -> Form
     requires types_within { 3 * declared_in within ≤ length types.now }
     requires bytes_within { (length l.now ≤ expression_limit) × (at + length l.now ≤ length notes.old) }
@@ -183,7 +186,7 @@ fn read_if(types: &[u8], within: usize, l: &[u8], notes: &mut [u8], at: usize) -
 }
 
 // The two expressions of an application.
-#[cycle(read_read_application_read_attribute_read_by_head_read_if)]
+#[cycle(reading)]
 fn read_application(types: &[u8], within: usize, l: &[u8], notes: &mut [u8], at: usize) -> Form
     requires types_within { 3 * declared_in within ≤ length types.now }
     requires bytes_within { (length l.now ≤ expression_limit) × (at + length l.now ≤ length notes.old) }
@@ -201,7 +204,7 @@ fn read_application(types: &[u8], within: usize, l: &[u8], notes: &mut [u8], at:
 }
 
 // The attribute's number, and the expressions of the node and the parameter.
-#[cycle(read_read_application_read_attribute_read_by_head_read_if)]
+#[cycle(reading)]
 fn read_attribute(types: &[u8], within: usize, l: &[u8], notes: &mut [u8], at: usize) -> Form
     requires types_within { 3 * declared_in within ≤ length types.now }
     requires bytes_within { (length l.now ≤ expression_limit) × (at + length l.now ≤ length notes.old) }
@@ -228,7 +231,7 @@ fn read_attribute(types: &[u8], within: usize, l: &[u8], notes: &mut [u8], at: u
 
 // The expression at the front of e, by its head. The types of the attributes are read off their commands, `types`; `within` is what `within_of` puts
 // together.
-#[cycle(read_read_application_read_attribute_read_by_head_read_if)]
+#[cycle(reading)]
 fn read_by_head(types: &[u8], within: usize, e: &[u8], notes: &mut [u8], at: usize) -> Form
     requires types_within { 3 * declared_in within ≤ length types.now }
     requires bytes_within { (length e.now ≤ expression_limit) × (at + length e.now ≤ length notes.old) }
@@ -275,7 +278,7 @@ fn read_by_head(types: &[u8], within: usize, e: &[u8], notes: &mut [u8], at: usi
 }
 
 // The expression at the front of e, with its width noted.
-#[cycle(read_read_application_read_attribute_read_by_head_read_if)]
+#[cycle(reading)]
 fn read(types: &[u8], within: usize, e: &[u8], notes: &mut [u8], at: usize) -> Form
     requires types_within { 3 * declared_in within ≤ length types.now }
     requires bytes_within { (length e.now ≤ expression_limit) × (at + length e.now ≤ length notes.old) }
@@ -373,6 +376,7 @@ pub fn check_question(
 // ---- The width of an expression
 
 // How many bytes a head takes with its operand, and eight times how many expressions follow it.
+#[tactic(auto, unfolding(crate::specs::Widths::shape_of, saiga::specs::Expressions::head_of))]
 fn head_shape(head: u8) -> usize
     ensures { result ≡ shape_of (head_of head) }
 {

@@ -14,6 +14,7 @@ pub fn base_number(code: u8) -> u32
 }
 
 // The number of the type of the function with this code.
+#[tactic(auto, unfolding(crate::specs::Forms::type_number, saiga::specs::Values::function_type, saiga::specs::Values::function_of))]
 pub fn function_number(code: u8) -> u32
     ensures { result ≡ type_number (function_type (function_of code)) }
 {
@@ -28,6 +29,7 @@ pub fn function_number(code: u8) -> u32
 }
 
 // IF: the condition is a Bool, and the branches have one type.
+#[tactic(auto, using(crate::proofs::TypeNumbers::number_laws))]
 pub fn if_number(c: u32, t: u32, e: u32) -> u32
     ensures { (C T E : Option Ty) → c ≡ inferred_number C → t ≡ inferred_number T → e ≡ inferred_number E
         → result ≡ inferred_number (infer_if C T E) }
@@ -39,6 +41,7 @@ pub fn if_number(c: u32, t: u32, e: u32) -> u32
 }
 
 // Application of f to x: the type of f is p ⇒ r and that of x is p.
+#[tactic(auto, using(crate::proofs::TypeNumbers::number_laws))]
 pub fn application_number(f: u32, x: u32) -> u32
     ensures { (F X : Option Ty) → f ≡ inferred_number F → x ≡ inferred_number X
         → result ≡ inferred_number (infer_application F X) }
@@ -50,6 +53,7 @@ pub fn application_number(f: u32, x: u32) -> u32
 }
 
 // Attribute a of a node, with parameter x: the type bytes stand in the attribute's command.
+#[tactic(auto, using(crate::proofs::TypeNumbers::number_laws))]
 pub fn attribute_number(types: &[u8], a: usize, n: u32, x: u32) -> u32
     requires { 3 * a + 3 ≤ length types.now }
     ensures { (attributes : ℕ) (N X : Option Ty) → a < attributes → n ≡ inferred_number N → x ≡ inferred_number X

@@ -1,6 +1,5 @@
 pub mod Puts
 pub mod Noticed
-pub mod Counts
 pub mod PreparedEmpty
 pub mod Turns
 pub mod TurnByTurn

@@ -11,7 +11,7 @@ use borrow.Author.Tests.{leb-true, leb-false, lt-leb}
 use Rattle.saiga.specs.Limits.{sheet_limit, entry_limit}
 use Rattle.saiga.specs.Sheet.{check_sheet}
 use Rattle.saiga.specs.Ask.{Lent, Call, check_call, ask}
-use Rattle.saiga.specs.Calls.{empty, answers}
+use Rattle.saiga.specs.Calls.{empty, answers, leaves}
 use Rattle.stream.specs.Stream.{items}
 use Rattle.report.specs.Printed.{calls, lines, printed}
 
@@ -29,7 +29,9 @@ same_check sheet = go (leb (length sheet) (suc sheet_limit)) refl
 same-answers : (sheet : List ℕ) (m : Lent) (l : List Call) → answers (take (suc sheet_limit) sheet) m l ≡ answers sheet m l
 unfolding answers ask check_call
 same-answers sheet m [] = refl
-same-answers sheet m (c ∷ l) = rw (same_check sheet, same-answers sheet _ l)
+same-answers sheet m (c ∷ l) =
+    let one : ask (take (suc sheet_limit) sheet) m c ≡ ask sheet m c = rw (same_check sheet) in
+    rw one (ap (λ r. (ask sheet m c).answer ∷ r) (same-answers sheet (leaves (ask sheet m c)) l))
 
 pub read-enough : (sheet input : List ℕ) → printed (take (suc sheet_limit) sheet) input ≡ printed sheet input
 unfolding printed

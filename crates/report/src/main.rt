@@ -23,6 +23,7 @@ use engine::RUN_SIZE;
 use saiga::limits::{BUDGET_LIMIT, SHEET_LIMIT, STORE_LIMIT, TALLY_ROWS};
 use sheets::SheetCheck;
 use sheets::lookup::INDEX_SIZE;
+use std::io::{Stderr, Stdin, Stdout};
 use stores::LINKS_SIZE;
 use stream::Next;
 use system::SheetFile;
@@ -31,7 +32,7 @@ use telling::Notices;
 // Where the run stands: the bytes at hand are those of the buffer from `from` to `to`, and the `came` bytes after them were read for the next
 // turn; the entries kept; whether the input's end was seen, and whether the last read failed, which counts as that; whether there is more to
 // do; and how long the line is that the last turn left.
-#[derive(Drop)]
+#[derive(Clone, Copy)]
 struct State {
     from: usize,
     to: usize,
@@ -51,7 +52,7 @@ struct Answered {
 }
 
 // How a run ended: where it stood, how many turns were left, and whether each line was written.
-#[derive(Drop)]
+#[derive(Clone, Copy)]
 struct Ending {
     state: State,
     left: u64,
@@ -59,6 +60,7 @@ struct Ending {
 }
 
 // The line of an answer.
+#[tactic(auto, unfolding(calls::specs::Answers::answer_of))]
 fn line_of(answer: Answer, out: &mut [u8; 128]) -> usize
     ensures size { result ≡ length (line_of (answer_of answer)) }
     ensures out_after { out.new ≡ sets out.old 0 (line_of (answer_of answer)) }
@@ -86,6 +88,7 @@ fn line_of(answer: Answer, out: &mut [u8; 128]) -> usize
     }
 }
 
+#[tactic(auto, unfolding(calls::specs::Answers::answer_of))]
 fn kept_of(answer: Answer) -> usize
     ensures { result ≡ (answer_of answer).kept }
 {
@@ -161,7 +164,7 @@ fn answer<'a>(
 
 // Where the bytes at hand are no whole question and the input goes on, more of it is read: they are moved to the front of the buffer, and
 // what comes stands after them.
-fn fetch(input: &mut [u8], s: State) -> State
+fn fetch(stdin: Stdin, input: &mut [u8], s: State) -> State
     requires within { Within input.old s }
     requires room { 65537 ≤ length input.old }
     ensures { Fetched input.old input.new s result }
@@ -171,7 +174,7 @@ fn fetch(input: &mut [u8], s: State) -> State
     match stream::next_item(&input[from..to], s.ended) {
         Next::More => {
             let held = stream::shift(input, from, to);
-            let brought = system::read_input(input, held);
+            let brought = system::read_input(stdin, input, held);
             State {
                 from: 0,
                 to: held,
@@ -294,6 +297,8 @@ fn turn<'a>(
 // Turns until there is no more to do, or a line cannot be written. A proved loop has to end, and nothing says that the input does, so the
 // turns are counted down from a number that no run uses up (proofs/Few.antt).
 fn run(
+    stdin: Stdin,
+    stdout: Stdout,
     check: SheetCheck,
     sheet: &[u8],
     index: &[u16],
@@ -323,13 +328,13 @@ fn run(
     let mut line = [0u8; 128];
     let mut turns = u64::MAX;
     while turns > 0 && s.going {
-        s = fetch(input, s);
+        s = fetch(stdin, input, s);
         s = turn(
             check, sheet, index, notes, input, store, links, memory, &mut line, s,
         );
         turns -= 1;
         let n = s.line;
-        if !system::write_output(&line[..n]) {
+        if !system::write_output(stdout, &line[..n]) {
             return Ending {
                 state: s,
                 left: turns,
@@ -395,6 +400,9 @@ fn prepare(
 // All questions are put to one store of 1,024 entries, which is empty at first. `index` has room for the sheet's, and `notes` for what is noted of
 // it. What went wrong is told after the run, so that standard error, whatever becomes of it, cannot change what is printed.
 fn answer_all(
+    stdin: Stdin,
+    stdout: Stdout,
+    stderr: Stderr,
     file: SheetFile,
     sheet: &[u8],
     index: &mut [u16; INDEX_SIZE],
@@ -406,6 +414,8 @@ fn answer_all(
     let mut input = [0u8; 131072];
     let mut memory = [0u64; RUN_SIZE];
     let ending = run(
+        stdin,
+        stdout,
         check,
         sheet,
         index,
@@ -415,14 +425,22 @@ fn answer_all(
         &mut links,
         &mut memory,
     );
-    telling::tell_all(notices_after(file, check, &input, ending));
+    telling::tell_all(stderr, notices_after(file, check, &input, ending));
 }
 
-fn main() {
+fn main(rt: HostRuntime) {
     let mut sheet = [0u8; SHEET_LIMIT + 1];
-    let file = system::read_sheet(&mut sheet);
+    let file = system::read_sheet(&rt, &mut sheet);
     let n = system::size_of(file);
     let mut index = [0u16; INDEX_SIZE];
     let mut notes = [0u8; SHEET_LIMIT];
-    answer_all(file, &sheet[..n], &mut index, &mut notes);
+    answer_all(
+        rt.stdin(),
+        rt.stdout(),
+        rt.stderr(),
+        file,
+        &sheet[..n],
+        &mut index,
+        &mut notes,
+    );
 }

@@ -6,6 +6,7 @@ use crate::system;
 use crate::system::SheetFile;
 use notices::Notice;
 use sheets::SheetCheck;
+use std::io::Stderr;
 
 // The notices of a run, in their order.
 #[derive(Drop)]
@@ -16,6 +17,7 @@ pub struct Notices {
     output: Notice,
 }
 
+#[tactic(auto, unfolding(crate::specs::Notices::of_sheet))]
 fn of_sheet(file: SheetFile, check: SheetCheck) -> Notice
     ensures { result ≡ of_sheet file check }
 {
@@ -37,6 +39,7 @@ fn told_if(due: bool, notice: Notice) -> Notice
 
 // The notices that are due after a run: what became of the sheet, whether a read of standard input failed, whether the last question is cut,
 // and whether each line was written.
+#[tactic(auto, unfolding(crate::specs::Notices::due_after))]
 pub fn due(file: SheetFile, check: SheetCheck, failed: bool, cut: bool, written: bool) -> Notices
     ensures { result ≡ due_after file check failed cut written }
 {
@@ -48,19 +51,19 @@ pub fn due(file: SheetFile, check: SheetCheck, failed: bool, cut: bool, written:
     }
 }
 
-fn tell(notice: Notice) {
+fn tell(stderr: Stderr, notice: Notice) {
     let mut out = [0u8; 128];
     let n = notices::line(notice, &mut out);
-    system::write_error(&out[..n]);
+    system::write_error(stderr, &out[..n]);
 }
 
-pub fn tell_all(notices: Notices) {
+pub fn tell_all(stderr: Stderr, notices: Notices) {
     let sheet = notices.sheet;
     let input = notices.input;
     let question = notices.question;
     let output = notices.output;
-    tell(sheet);
-    tell(input);
-    tell(question);
-    tell(output);
+    tell(stderr, sheet);
+    tell(stderr, input);
+    tell(stderr, question);
+    tell(stderr, output);
 }

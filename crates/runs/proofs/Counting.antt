@@ -11,7 +11,7 @@ use Rattle.saiga.specs.declared.Value.{Value}
 use Rattle.saiga.specs.Expressions.{Head, base_literal, function_literal, if_head, application_head, attribute_head, this_head, parameter_head, no_head, head_of}
 use Rattle.sheets.specs.Scan.{rule_number}
 use Rattle.engine.specs.declared.Registers.{Registers}
-use Rattle.engine.specs.Steps.{Memory, Stepped, goes, waits, finishes, stops, read_head, take_if, within, close_form, open_piece, open_rule, open_figure, take_kept, attribute_due, give, read_next, step_of}
+use Rattle.engine.specs.Steps.{Memory, Stepped, goes, waits, finishes, stops, read_head, take_if, close_form, open_piece, open_rule, open_figure, take_kept, attribute_due, give, read_next, step_of}
 use Rattle.saiga.proofs.Preservation.{either}
 use Rattle.engine.proofs.Limited.{within-holds, right-holds, missing-holds}
 

@@ -1,9 +1,8 @@
 -- The rounds of the run's loop: what holds from move to move goes on holding, of every call whose run this is.
 use mathlib.Core.List.{List}
-use mathlib.Core.Path.{◌≡◌, refl, sym, ap, ◌∙◌}
+use mathlib.Core.Path.{◌≡◌, sym, ap, ◌∙◌}
 use Prim.Native.Nat.{ℕ, ◌≤◌, ◌<◌}
 use native.Mathlib.Omega.{arith}
-use lib.ListN.{length}
 use Rattle.saiga.specs.Caching.{Counted, Ended}
 use Rattle.stores.specs.Keys.{Linked}
 use Rattle.engine.specs.declared.Registers.{Registers}
@@ -27,7 +26,7 @@ use Rattle.runs.specs.Moves.{StepsTo, Running, RunsTo, TalliesTo}
 
 module _ (sheet index notes question : List ℕ) (budget limit : ℕ) where
   -- registers, memory and the rows of the tally, and those that the run began with
-  pub record Round (store₀ links₀ run₀ rows₀ : List ℕ) (first : Registers) (store links run rows : List ℕ) (m : Registers) : Type 0 where
+  pub record Round (store₀ run₀ rows₀ : List ℕ) (first : Registers) (store links run rows : List ℕ) (m : Registers) : Type 0 where
     pub running : Running sheet index notes question budget store links run m
     pub on : (lent : List ℕ) (kept : ℕ) (whole : Ended) → Invariant sheet index question budget lent kept whole (memory_of store₀ run₀) first
         → Invariant sheet index question budget lent kept whole (memory_of store run) m
@@ -35,13 +34,9 @@ module _ (sheet index notes question : List ℕ) (budget limit : ℕ) where
     pub rows-within : RowsWithin m.steps rows
     pub tallied : (all : List Counted) → Tallied sheet question budget all rows₀ (memory_of store₀ run₀) first
         → Tallied sheet question budget all rows (memory_of store run) m
-    pub store-size : length store ≡ length store₀
-    pub links-size : length links ≡ length links₀
-    pub run-size : length run ≡ length run₀
-    pub rows-size : length rows ≡ length rows₀
 
   pub first_round : {store links run rows : List ℕ} {m : Registers} → Running sheet index notes question budget store links run m
-      → RowsWithin m.steps rows → Round store links run rows m store links run rows m
+      → RowsWithin m.steps rows → Round store run rows m store links run rows m
   first_round running within =
       record {
         running = running;
@@ -49,29 +44,12 @@ module _ (sheet index notes question : List ℕ) (budget limit : ℕ) where
         counted = λ h. h;
         rows-within = within;
         tallied = λ all t. t;
-        store-size = refl;
-        links-size = refl;
-        run-size = refl;
-        rows-size = refl;
       }
 
-  module _ {store₀ links₀ run₀ rows₀ : List ℕ} {first : Registers} {store links run rows : List ℕ} {m : Registers}
-      (round : Round store₀ links₀ run₀ rows₀ first store links run rows m) where
+  module _ {store₀ run₀ rows₀ : List ℕ} {first : Registers} {store links run rows : List ℕ} {m : Registers}
+      (round : Round store₀ run₀ rows₀ first store links run rows m) where
     abbrev mem : Memory
     mem = memory_of store run
-
-    -- A move keeps the lengths.
-    pub store-stays : (store' : List ℕ) → length store' ≡ length store → length store' ≡ length store₀
-    store-stays store' same = same ∙ round.store-size
-
-    pub links-stay : (links' : List ℕ) → length links' ≡ length links → length links' ≡ length links₀
-    links-stay links' same = same ∙ round.links-size
-
-    pub run-stays : (run' : List ℕ) → length run' ≡ length run → length run' ≡ length run₀
-    run-stays run' same = same ∙ round.run-size
-
-    pub rows_stay : (rows' : List ℕ) → length rows' ≡ length rows → length rows' ≡ length rows₀
-    rows_stay rows' same = same ∙ round.rows-size
 
     -- No row is above the budget, as the steps are not.
     pub rows-permitted : RowsWithin budget rows
@@ -98,11 +76,9 @@ module _ (sheet index notes question : List ℕ) (budget limit : ℕ) where
         pub round-less : measure budget (machine_in sheet question mem' m') < measure budget (machine_in sheet question mem m)
         round-less = invariant-falls round.running.invariant limit steps.skip steps.packed steps.width steps.packs goes_to
 
-        pub round-again : (rows' : List ℕ) → rows' ≡ rows_after r (due_row mem m) rows
-            → length store' ≡ length store → length links' ≡ length links → length run' ≡ length run → length rows' ≡ length rows
-            → Round store₀ links₀ run₀ rows₀ first store' links' run' rows' m'
+        pub round-again : (rows' : List ℕ) → rows' ≡ rows_after r (due_row mem m) rows → Round store₀ run₀ rows₀ first store' links' run' rows' m'
         unfolding kept_after forms_after rows_after
-        round-again rows' after a b c d =
+        round-again rows' after =
             let rows_are : rows' ≡ counted_in (due_row mem m) rows = rw is at after in
             let next : (lent : List ℕ) (kept : ℕ) (whole : Ended) → Invariant sheet index question budget lent kept whole mem m
             → Invariant sheet index question budget lent kept whole mem' m' =
@@ -127,10 +103,6 @@ module _ (sheet index notes question : List ℕ) (budget limit : ℕ) where
               tallied = λ all t.
                   rw rows_are (tallied-on round.running.invariant limit steps.skip steps.packed steps.width steps.packs goes_to rows round.rows-within
                   (round.tallied all t));
-              store-size = a ∙ round.store-size;
-              links-size = b ∙ round.links-size;
-              run-size = c ∙ round.run-size;
-              rows-size = d ∙ round.rows-size;
             }
 
       module _ (lent : List ℕ) (kept : ℕ) (whole : Ended)

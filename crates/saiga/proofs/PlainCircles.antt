@@ -15,7 +15,7 @@ use Rattle.saiga.specs.Limits.{node_limit, attribute_limit}
 use Rattle.saiga.specs.Values.{node_t, Ty, base, Value, truth, null, node_of, Applied, gives, overflows, apply, word_limit, to_word}
 use Rattle.saiga.specs.Expressions.{Expr}
 use Rattle.saiga.specs.Types.{Attribute, attribute_at}
-use Rattle.saiga.specs.Terms.{Occurrence, val, cond, app, attr}
+use Rattle.saiga.specs.Terms.{Occurrence, val, app, attr}
 use Rattle.saiga.specs.Plain.{Plain, NoValue, on_null, by_overflow, steps_to, ends_without, step_part, plain_application, plain_attribute, plain_step, plain_at, EndsWithValue, EndsWithout, RunsForEver}
 use Rattle.saiga.specs.Sound.{IsA, ValueIn, OccurrenceIn, PlainIn, val∈, cond∈, app∈, attr∈, form∈, ContextIn}
 use Rattle.saiga.specs.Sheet.{Sheet, context, accepted, check_sheet, node_count}

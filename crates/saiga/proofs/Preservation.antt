@@ -16,7 +16,7 @@ use Rattle.saiga.specs.Expressions.{Expr, Scope}
 use Rattle.saiga.specs.Types.{Attribute, attribute_at}
 use Rattle.saiga.specs.Terms.{Occurrence, put}
 use Rattle.saiga.specs.Plain.{Plain, PlainStep, is_value, steps_to, ends_without, on_null, step_part, plain_application, plain_attribute, plain_step, plain_at}
-use Rattle.saiga.specs.Caching.{Entry, same_occurrence, kept, is_kept, write, Running, Counted, AppApp, AttrApp, Reason, as_plain, circle, spent, depth, Due, finished, counts, writes, halts, due_part, count, cond_rule, app_app, kept_or, circular, too_deep, attr_app, due, State, with_value, by, Ended, due_at, run}
+use Rattle.saiga.specs.Caching.{Entry, same_occurrence, kept, is_kept, write, Running, Counted, AppApp, Reason, as_plain, circle, spent, depth, Due, finished, counts, writes, halts, due_part, count, cond_rule, app_app, kept_or, circular, too_deep, attr_app, due, State, with_value, by, Ended, due_at, run}
 use Rattle.saiga.specs.Runs.{Reaches, at_first, by_counted, by_writing, Traces, none_value, none_by, one_counted, past_writing}
 use Rattle.saiga.specs.Sound.{IsA, ValueIn, ExprIn, literal∈, if∈, application∈, attribute∈, this∈, parameter∈, OccurrenceIn, EntryIn, All, all_none, all_cons, TermIn, PlainIn, RunningIn, val∈, cond∈, app∈, attr∈, form∈, ContextIn}
 use Rattle.saiga.proofs.FourBytes.{by-ends, int-in, bool-in}

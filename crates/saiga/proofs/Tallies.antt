@@ -11,7 +11,7 @@ use Rattle.saiga.specs.Expressions.{Expr}
 use Rattle.saiga.specs.Types.{Attribute}
 use Rattle.saiga.specs.Sheet.{Sheet, Checked, refused◌at_place◌, accepted, check_sheet, node_count, context, question_scope}
 use Rattle.saiga.specs.Caching.{Counted, CondTrue, CondFalse, AppApp, AttrApp, State, Ending, with_value, by, Ended}
-use Rattle.saiga.specs.Tally.{steps_in, tally, total}
+use Rattle.saiga.specs.Tally.{steps_in, total}
 use Rattle.saiga.specs.Runs.{Runs, Traces, none_value, none_by, one_counted, past_writing}
 use Rattle.saiga.specs.Sound.{All, all_none, all_cons}
 use Rattle.saiga.specs.Store.{capacity}

@@ -1,5 +1,5 @@
 -- Plain Saiga (document 01, "Plain Saiga", and F-4 of document 02): no store, no form n.a(v) := e, no limits.
-use Rattle.std.specs.Prelude.{Bool, ◌≡◌, ℕ, zero, suc, eqb}
+use Rattle.std.specs.Prelude.{◌≡◌, ℕ, zero, suc, eqb}
 use Rattle.std.proofs.Math.Bool as Bool
 use Rattle.std.proofs.Math.Option.{Option, none, some}
 use Rattle.saiga.specs.Values.{Value, null, truth, node_of, Applied, gives, overflows, apply}

@@ -5,7 +5,7 @@
 pub mod limits;
 
 // The functions by their codes 0 to 5.
-#[derive(Drop)]
+#[derive(Clone, Copy)]
 pub enum Function {
     Le,
     EqualInt,
@@ -16,7 +16,7 @@ pub enum Function {
 }
 
 // A function of two arguments that holds its first.
-#[derive(Drop)]
+#[derive(Clone, Copy)]
 pub enum Holding {
     Le(i32),
     EqualInt(i32),
@@ -29,7 +29,7 @@ pub enum Holding {
 pub const NULL: u16 = 65535;
 
 // A Node is its declared number, or null.
-#[derive(Drop)]
+#[derive(Clone, Copy)]
 pub enum Value {
     Unit,
     Bool(bool),
@@ -40,21 +40,21 @@ pub enum Value {
 }
 
 // A sum or a difference: an Int, in the 64 bits in which it was made, or beyond the ends of Int.
-#[derive(Drop)]
+#[derive(Clone, Copy)]
 pub enum Sum {
     Fits(i64),
     Overflow,
 }
 
 // What a function gives of an argument: a value, or overflow.
-#[derive(Drop)]
+#[derive(Clone, Copy)]
 pub enum Applied {
     Gives(Value),
     Overflow,
 }
 
 // An entry of the store in numbers: its parameter and its value in their four-byte forms, and the code of the value's type.
-#[derive(Drop)]
+#[derive(Clone, Copy)]
 pub struct Fields {
     pub node: u32,
     pub attribute: u32,

@@ -21,7 +21,7 @@ use Rattle.expressions.proofs.TypeNumbers.{base-small, number-positive}
 use Rattle.sheets.specs.declared.Progress.{Progress}
 use Rattle.sheets.specs.declared.Read.{Read}
 use Rattle.sheets.specs.declared.Read.TheVariants.{Stops, Ends, GoesOn}
-use Rattle.sheets.specs.Scan.{figure_place, rule_place, forward_place, piece_at, Scanned, stops◌at_offset◌, ends, goes_on, demand, scan_attribute, scan_node, scan_figure, demand_piece, scan_piece, scan_rule, scan_forward, scan_end, scan_at, scan_command, PieceAsked, ReadAs}
+use Rattle.sheets.specs.Scan.{figure_place, rule_place, forward_place, piece_at, Scanned, stops◌at_offset◌, ends, goes_on, demand, scan_attribute, scan_node, scan_figure, demand_piece, scan_piece, scan_rule, scan_forward, scan_end, scan_at, scan_command, ReadAs}
 
 -- ---- What the code reads
 
@@ -218,12 +218,6 @@ module _ (bytes : List ℕ) (p : Progress) (index : List ℕ) (place before : �
 
 -- ---- A rule
 
-pub rule-asked : {bytes : List ℕ} {at n k a place : ℕ} → n ≡ of_bytes (take 2 (drop (at + 3) bytes)) → at + 5 + n ≤ length bytes → k ≤ 15
-    → a < 32 → place ≡ rule_place k a → PieceAsked bytes at place (at + 2)
-rule-asked {at} size whole few small here =
-    let length_at : at + 2 + 1 ≡ at + 3 = omega arith in
-    record { low = omega arith; high = omega arith; behind = omega arith; room = rw (length_at, ← size) (omega arith) }
-
 module _ (bytes : List ℕ) (p : Progress) (index : List ℕ) (early : p.part ≤ 3) where
   pub rule-short : length bytes < p.at + 5 → ReadAs (Stops 2 0) index index (scan_rule bytes p index)
   unfolding scan_rule demand
@@ -252,12 +246,6 @@ module _ (bytes : List ℕ) (p : Progress) (index : List ℕ) (early : p.part �
             rw (le-leb _ _ early, le-leb _ _ long, ← size, le-leb _ _ whole, ← kind, le-leb _ _ few, ← attribute, lt-ltb _ _ declared, ← here, ← parameter-is, ← result-is) read
 
 -- ---- A forward
-
-pub forward-asked : {bytes : List ℕ} {at n k place : ℕ} → n ≡ of_bytes (take 2 (drop (at + 2) bytes)) → at + 4 + n ≤ length bytes → k ≤ 15
-    → place ≡ forward_place k → PieceAsked bytes at place (at + 1)
-forward-asked {at} size whole few here =
-    let length_at : at + 1 + 1 ≡ at + 2 = omega arith in
-    record { low = omega arith; high = omega arith; behind = omega arith; room = rw (length_at, ← size) (omega arith) }
 
 module _ (bytes : List ℕ) (p : Progress) (index : List ℕ) (early : p.part ≤ 3) where
   pub forward-short : length bytes < p.at + 4 → ReadAs (Stops 2 0) index index (scan_forward bytes p index)

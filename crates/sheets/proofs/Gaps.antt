@@ -8,13 +8,12 @@ use native.Mathlib.Omega.{arith}
 use lib.Dec.{eqb, eqb-suc-zero}
 use lib.ListN.{get_or}
 use borrow.Author.Tests.{ne_eqb, not-true, not-false}
-use Rattle.saiga.specs.Limits.{attribute_limit, node_limit}
 use Rattle.saiga.proofs.Gaps.{one_more, LowestNode, lowest-at, gap-law}
 use Rattle.sheets.specs.declared.Progress.{Progress}
 use Rattle.sheets.specs.declared.Gap.{Gap}
 use Rattle.sheets.specs.declared.Gap.TheVariants.{At, Nowhere}
 use Rattle.sheets.specs.declared.SheetCheck.TheVariants.{Refused, Accepted}
-use Rattle.sheets.specs.Scan.{figure_place, rule_place, forward_place, pair_indexed, is_indexed, missing_in, Lacks, counted, scanned, Declared, scan_of, gap_of}
+use Rattle.sheets.specs.Scan.{figure_place, rule_place, forward_place, pair_indexed, is_indexed, missing_in, Lacks, counted, scanned, scan_of, gap_of}
 use Rattle.values.specs.Layout.{kind_at}
 
 -- ---- A pair
@@ -51,29 +50,22 @@ module _ (bytes index : List ℕ) (attributes limit n : ℕ) where
           lower = λ b p. rw (← kind, ← at_forward, ← is, ne_eqb number 0 has, or-true);
         }
 
-    pub node-start : number ≡ 0 → HasBelow k 0
-    node-start lacks = record { kind = kind; no-forward = rw (← at_forward, ← is) lacks; within = omega arith; lower = λ b p. absurd (omega arith) }
+  module _ (k a : ℕ) (h : HasBelow k a) (more : a < limit) (b : Bool) (test : b ≡ pair_indexed index n k a) where
+    -- by its kind
+    pair_is : is_indexed bytes index attributes n a ≡ b
+    unfolding is_indexed
+    pair_is = rw (← h.kind, h.no-forward, ← test, or-false)
 
-  module _ (k a : ℕ) (h : HasBelow k a) where
-    pub node-has-all : limit ≤ a → Lacks (is_indexed bytes index attributes n) limit limit
-    node-has-all done = record { within = omega arith; undefined = λ p. absurd (omega arith); lower = λ b p. h.lower b (omega arith) }
+    pub node-lacks : not b ≡ true → Lacks (is_indexed bytes index attributes n) limit a
+    node-lacks f = record { within = h.within; undefined = λ p. pair_is ∙ not-true b f; lower = h.lower }
 
-    module _ (more : a < limit) (b : Bool) (test : b ≡ pair_indexed index n k a) where
-      -- by its kind
-      pair_is : is_indexed bytes index attributes n a ≡ b
-      unfolding is_indexed
-      pair_is = rw (← h.kind, h.no-forward, ← test, or-false)
-
-      pub node-lacks : not b ≡ true → Lacks (is_indexed bytes index attributes n) limit a
-      node-lacks f = record { within = h.within; undefined = λ p. pair_is ∙ not-true b f; lower = h.lower }
-
-      pub node-has : not b ≡ false → HasBelow k (a + 1)
-      node-has f = record {
-        kind = h.kind;
-        no-forward = h.no-forward;
-        within = omega arith;
-        lower = λ c p. one_more (λ c. is_indexed bytes index attributes n c ≡ true) a h.lower (pair_is ∙ not-false b f) c (omega arith);
-      }
+    pub node-has : not b ≡ false → HasBelow k (a + 1)
+    node-has f = record {
+      kind = h.kind;
+      no-forward = h.no-forward;
+      within = omega arith;
+      lower = λ c p. one_more (λ c. is_indexed bytes index attributes n c ≡ true) a h.lower (pair_is ∙ not-false b f) c (omega arith);
+    }
 
 -- ---- All nodes
 
@@ -85,60 +77,19 @@ module _ (bytes index : List ℕ) (attributes nodes : ℕ) where
     pub lower : (m b : ℕ) → m < n → b < lowest → is_indexed bytes index attributes m b ≡ true
     pub found : lowest < attributes → LowestNode (is_indexed bytes index attributes) n lowest node
 
-  pub all_start : (node : ℕ) → FirstOf 0 attributes node
-  all_start node =
-      record { to_end = omega arith; within = omega arith; lower = λ m b p. absurd (omega arith); found = λ p. absurd (omega arith) }
+  module _ (n lowest node : ℕ) (h : FirstOf n lowest node) (done : nodes ≤ n) where
+    end_is : n ≡ nodes
+    end_is = omega (arith, h.to_end)
 
-  module _ (n lowest node : ℕ) (h : FirstOf n lowest node) where
-    module _ (more : n < nodes) (a : ℕ) (lacks : Lacks (is_indexed bytes index attributes n) lowest a) where
-      -- below an attribute that node n has too
-      lower-next : (limit : ℕ) → limit ≤ a → (m b : ℕ) → m < n + 1 → b < limit → is_indexed bytes index attributes m b ≡ true
-      lower-next limit fits m b p q =
-          one_more (λ m. is_indexed bytes index attributes m b ≡ true) n (λ m p. h.lower m b p (omega (arith, lacks.within))) (lacks.lower b (omega arith)) m (omega arith)
+    pub gap-named : lowest < attributes → (place : ℕ) → place ≡ figure_place node lowest → some place ≡ missing_in bytes index attributes nodes
+    gap-named less place here =
+        let first : LowestNode (is_indexed bytes index attributes) nodes lowest node = rw end_is at (h.found less) in
+        sym ((gap-law (is_indexed bytes index attributes) nodes attributes (some place)).1
+        (node, lowest, here, lowest-at _ _ first less (rw end_is at h.lower)))
 
-      -- what is kept after it
-      module _ (lowest' node' : ℕ) where
-        pub gap-lower : a < lowest → lowest' ≡ a → node' ≡ n → FirstOf (n + 1) lowest' node'
-        gap-lower less at_a at_n = rw (at_a, at_n) (record {
-          to_end = omega arith;
-          within = omega (arith, h.within);
-          lower = lower-next a (omega arith);
-          found = λ p. record { node = omega arith; undefined = lacks.undefined less; lower_node = λ m q. h.lower m a q less };
-        })
-
-        pub gap-stays : lowest ≤ a → lowest' ≡ lowest → node' ≡ node → FirstOf (n + 1) lowest' node'
-        gap-stays same at-lowest at-node = rw (at-lowest, at-node) (record {
-          to_end = omega arith;
-          within = h.within;
-          lower = lower-next lowest same;
-          found = λ p.
-              let first = h.found p in
-              record { node = omega (arith, first.node); undefined = first.undefined; lower_node = first.lower_node };
-        })
-
-    module _ (done : nodes ≤ n) where
-      end_is : n ≡ nodes
-      end_is = omega (arith, h.to_end)
-
-      module _ (less : lowest < attributes) (declared : (m : ℕ) → m < nodes → Declared bytes index attributes m) where
-        node_declared : Declared bytes index attributes node
-        node_declared = let first = h.found less in declared node (omega (arith, first.node, end_is))
-
-        pub gap-node : node < node_limit
-        gap-node = node_declared.node_bound
-
-        pub gap-attribute : lowest < attribute_limit
-        gap-attribute = omega (arith, node_declared.attributes_bound)
-
-      pub gap-named : lowest < attributes → (place : ℕ) → place ≡ figure_place node lowest → some place ≡ missing_in bytes index attributes nodes
-      gap-named less place here =
-          let first : LowestNode (is_indexed bytes index attributes) nodes lowest node = rw end_is at (h.found less) in
-          sym ((gap-law (is_indexed bytes index attributes) nodes attributes (some place)).1
-          (node, lowest, here, lowest-at _ _ first less (rw end_is at h.lower)))
-
-      pub gap-none : attributes ≤ lowest → none ≡ missing_in bytes index attributes nodes
-      gap-none all =
-          sym ((gap-law (is_indexed bytes index attributes) nodes attributes none).1 λ m b p q. h.lower m b (omega (arith, end_is)) (omega arith))
+    pub gap-none : attributes ≤ lowest → none ≡ missing_in bytes index attributes nodes
+    gap-none all =
+        sym ((gap-law (is_indexed bytes index attributes) nodes attributes none).1 λ m b p q. h.lower m b (omega (arith, end_is)) (omega arith))
 
 -- ---- What the pass comes to
 

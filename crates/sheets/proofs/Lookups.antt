@@ -6,14 +6,12 @@ use mathlib.Core.Path.{◌≡◌, refl, ap, ◌∙◌}
 use Prim.Native.Nat.{ℕ, zero, suc, ◌+◌, ◌-◌, ◌≤◌, ◌<◌}
 use native.Mathlib.Omega.{arith}
 use lib.ListN.{length, take, drop, get_or}
-use borrow.Author.Tests.{eq-eqb, ne_eqb}
 use Rattle.saiga.specs.Values.{base_of, of_bytes, is_word, of_word}
 use Rattle.saiga.specs.declared.Value.{Value}
 use Rattle.saiga.specs.Sheet.{forwarded, ruled, figured, is_defined, accepted, check_sheet}
 use Rattle.saiga.proofs.FourBytes.{word_more}
 use Rattle.saiga.proofs.Accepted.{pair-defined}
-use Rattle.sheets.specs.declared.lookup.FoundPiece.TheVariants.{OfRule, OfForward}
-use Rattle.sheets.specs.Scan.{figure_place, pieces_at, rule_place, forward_place, attributes_place, figure_at, piece_at, indexed, IndexedPair, rule_number, forward_number, piece_for, PieceHere}
+use Rattle.sheets.specs.Scan.{figure_place, pieces_at, rule_place, forward_place, attributes_place, figure_at, piece_at, indexed, IndexedPair, rule_number, forward_number, PieceHere}
 use Rattle.sheets.proofs.Indexed.{kind-by-index, definition-by-index}
 use Rattle.values.specs.Layout.{result_at, kind_at}
 
@@ -50,9 +48,6 @@ module _ (bytes index : List ℕ) (n a place number : ℕ) (here : place ≡ fig
               value = rw same;
             }
 
-    pub figure_fits : number + 3 < 18446744073709551616
-    figure_fits = omega (arith, figure-here)
-
     pub figure-room : number + 3 + 4 ≤ length bytes
     figure-room = omega (arith, figure-here)
 
@@ -80,14 +75,6 @@ module _ (bytes index : List ℕ) (n a : ℕ) (h : IndexedPair bytes index n a) 
 
     pub forward-within : (place : ℕ) → place ≡ forward_place k → place < length index
     forward-within place here = omega (arith, kind-small, h.known.described.size)
-
-    module _ (rule number : ℕ) (rule-at : rule ≡ rule_place k a) (rule-is : number ≡ get_or index rule 0) where
-      pub of-rule : (number ≡ 0 → ⊥) → OfRule number ≡ piece_for (rule_number bytes index n a) (forward_number bytes index n)
-      of-rule has = rw (← counted, ← kind, ← rule-at, ← rule-is, ne_eqb number 0 has)
-
-      pub of-forward : number ≡ 0 → (forward other : ℕ) → forward ≡ forward_place k → other ≡ get_or index forward 0
-          → OfForward other ≡ piece_for (rule_number bytes index n a) (forward_number bytes index n)
-      of-forward lacks forward other forward-at forward-is = rw (← counted, ← kind, ← rule-at, ← rule-is, eq-eqb number 0 lacks, ← forward-at, ← forward-is)
 
   -- a number that the index has stands before a piece
   here : (place number : ℕ) → pieces_at ≤ place → place < attributes_place → get_or index place 0 ≡ number → (number ≡ 0 → ⊥) → PieceHere bytes number

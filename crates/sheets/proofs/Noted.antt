@@ -92,9 +92,6 @@ module _ (p : Progress) (index : List ℕ) where
     pub end-notes : (r : Read) → ReadAs r index index (scan_end bytes p) → NotesOn bytes p index notes index notes r
     end-notes r s = steady-notes r index _ s (end-steady bytes)
 
-    pub stop-notes : (number offset : ℕ) → NotesOn bytes p index notes index notes (Stops number offset)
-    stop-notes number offset = tt
-
 -- ---- A command with a piece
 
 -- A piece is read, whose bytes start at `before + 3`; those before it stay.
@@ -170,12 +167,6 @@ pass-next bytes first index notes index' notes' p p' pass on is size =
     record { noted = further pass.noted; size = size ∙ pass.size }
 
 module _ (bytes first index notes : List ℕ) (p : Progress) (pass : NotedPass bytes first index notes p) where
-  pub pass-room : length bytes ≤ length first → length bytes ≤ length notes
-  pass-room room = omega (arith, pass.size)
-
-  pub pass_same : (notes' : List ℕ) → length notes' ≡ length notes → length notes' ≡ length first
-  pass_same notes' size = size ∙ pass.size
-
   pub pass-over : (after notes' last : List ℕ) (check : SheetCheck) (gap : Option ℕ) {r : Read} → NotesOn bytes p index notes after notes' r → r ≡ Ends
       → scan_of check last ≡ scanned p after gap → ChecksNotes bytes check last notes'
   pass-over after notes' last check gap on is e =

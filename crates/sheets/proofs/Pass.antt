@@ -1,7 +1,7 @@
 -- The pass over the commands, one after the other: what is left of it from here on is all of it, and the index describes the sheet so far.
 use mathlib.Core.Bool.{Bool, true, false, cond, ◌&&◌, and-eq-true_iff}
 use mathlib.Core.List.{List}
-use mathlib.Core.Path.{◌≡◌, refl, sym, ap, ◌∙◌}
+use mathlib.Core.Path.{◌≡◌, refl, ap, ◌∙◌}
 use Prim.Native.Nat.{ℕ, zero, suc, ◌+◌, ◌-◌, ◌≤◌, ◌<◌}
 use native.Mathlib.Omega.{arith}
 use lib.Dec.{leb, ltb, eqb}
@@ -173,14 +173,8 @@ module _ (bytes first : List ℕ) (p : Progress) (index : List ℕ) (h : Reached
     kept-at-end : r ≡ Ends → after ≡ index
     kept-at-end told = s.index_is ∙ rw (← ends_as told)
 
-    pub size-at-stop : (whole : List ℕ) (number offset : ℕ) → r ≡ Stops number offset → length whole ≡ index_size → length after ≡ length whole
-    size-at-stop whole number offset told size = ap length (kept-at-stop number offset told) ∙ reached-size ∙ sym size
-
     size-at-end : r ≡ Ends → length after ≡ index_size
     size-at-end told = ap length (kept-at-end told) ∙ reached-size
-
-    pub size-completed : (whole last : List ℕ) → r ≡ Ends → length last ≡ length after → length whole ≡ index_size → length last ≡ length whole
-    size-completed whole last told kept size = kept ∙ size-at-end told ∙ sym size
 
     pub place-fits : (number offset : ℕ) → r ≡ Stops number offset → p.at + offset < 18446744073709551616
     place-fits number offset told =

@@ -34,7 +34,7 @@ const NODE_CODE: u8 = 3;
 
 // What is known of a sheet part way through its check: the offset reached, the part of the sheet reached, and how many attributes
 // and nodes are declared.
-#[derive(Drop)]
+#[derive(Clone, Copy)]
 pub struct Progress {
     pub at: usize,
     pub part: u32,
@@ -43,7 +43,7 @@ pub struct Progress {
 }
 
 // Stop 1 to 8 with its place, or an accepted sheet with the numbers of its attributes and nodes.
-#[derive(Drop)]
+#[derive(Clone, Copy)]
 pub enum SheetCheck {
     Refused(u32, usize),
     Accepted(usize, usize),

@@ -1,7 +1,6 @@
 -- The numbers that the C calls bring (document 01, "Stops by origin").
 use Rattle.std.specs.Prelude.{List, [], ◌∷◌, ◌≡◌, ℕ, ◌/◌, min, length, get_or, replicate}
 use Rattle.saiga.specs.Sheet.{Sheet, node_count, attribute_count, Checked, refused◌at_place◌, accepted}
-use Rattle.saiga.specs.Caching.{Entry}
 use Rattle.saiga.specs.Store.{check_store}
 use Rattle.values.specs.Layout.{attributes_in}
 use Rattle.sheets.specs.Scan.{attributes_place, nodes_place}

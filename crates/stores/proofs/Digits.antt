@@ -7,7 +7,7 @@ use native.Mathlib.Omega.{arith}
 use lib.Dec.{leb}
 use borrow.Author.Tests.{leb-true, leb-false}
 use Rattle.stores.specs.declared.Key.{Key}
-use Rattle.stores.specs.Walks.{Keyed, turn_of, bucket_of, key_digits, trail_step, trail_of, rest_after, digit_at, Agree}
+use Rattle.stores.specs.Walks.{Keyed, turn_of, bucket_of, key_digits, trail_step, trail_of, rest_after, Agree}
 
 -- the digits of a number after its lowest
 rest-shifts : (n d : ℕ) → rest_after n (suc d) ≡ rest_after (n / 8) d

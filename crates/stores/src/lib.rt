@@ -15,7 +15,7 @@ use saiga::limits::{ENTRY_LIMIT, ENTRY_WIDTH, STORE_LIMIT};
 use saiga::{Fields, Value};
 
 // An occurrence in numbers: its node, its attribute, and its parameter's four-byte form.
-#[derive(Drop)]
+#[derive(Clone, Copy)]
 pub struct Key {
     pub node: u32,
     pub attribute: u32,
@@ -48,7 +48,7 @@ const TRAIL_STEP: u64 = 8589934592;
 const BUCKETS_WIDE: u64 = BUCKETS as u64;
 
 // Where an entry with a key stands, or the free cell of the index where one would.
-#[derive(Drop)]
+#[derive(Clone, Copy)]
 pub enum Found {
     At(usize),
     Nothing(usize),

@@ -16,6 +16,7 @@ pub enum Next {
 }
 
 // A part of a question is cut where the input has ended.
+#[tactic(auto, unfolding(crate::specs::Next::next_of))]
 fn part(ended: bool) -> Next
     ensures { result ≡ next_of Rattle.stream.specs.Stream.part ended }
 {

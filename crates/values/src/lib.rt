@@ -22,6 +22,7 @@ fn long(z: i32) -> i64
 }
 
 // A result, if it is an Int.
+#[tactic(auto, unfolding(saiga::specs::Values::exact))]
 fn exact(z: i64) -> Sum
     ensures { result ≡ exact_of z }
 {
@@ -44,6 +45,7 @@ fn subtract(y: i32, x: i32) -> Sum
     exact(long(y) - long(x))
 }
 
+#[tactic(auto, unfolding(saiga::specs::Values::truth))]
 pub fn truth(v: Value) -> bool
     ensures { result ≡ truth_of v }
 {
@@ -57,6 +59,7 @@ pub fn truth(v: Value) -> bool
     }
 }
 
+#[tactic(auto, unfolding(saiga::specs::Values::number))]
 pub fn number(v: Value) -> i32
     ensures { result ≡ number_of v }
 {
@@ -70,6 +73,7 @@ pub fn number(v: Value) -> i32
     }
 }
 
+#[tactic(auto, unfolding(saiga::specs::Values::node_of))]
 pub fn node_of(v: Value) -> u16
     ensures { result ≡ node_of v }
 {
@@ -83,6 +87,7 @@ pub fn node_of(v: Value) -> u16
     }
 }
 
+#[tactic(auto, unfolding(saiga::specs::Values::apply_function))]
 fn apply_function(f: Function, x: Value) -> Value
     ensures { result ≡ apply_function f x }
 {
@@ -96,6 +101,7 @@ fn apply_function(f: Function, x: Value) -> Value
     }
 }
 
+#[tactic(auto, unfolding(saiga::specs::Values::apply_holding, saiga::specs::Values::summed))]
 fn apply_holding(h: Holding, x: Value) -> Applied
     ensures { result ≡ apply_holding h x }
 {
@@ -119,6 +125,7 @@ fn apply_holding(h: Holding, x: Value) -> Applied
 }
 
 // The function with a code.
+#[tactic(auto, unfolding(saiga::specs::Values::function_of))]
 pub fn function_of(code: u32) -> Function
     ensures { result ≡ function_of code }
 {
@@ -133,6 +140,7 @@ pub fn function_of(code: u32) -> Function
 }
 
 // A function value applied to its argument.
+#[tactic(auto, unfolding(saiga::specs::Values::apply))]
 pub fn apply(f: Value, x: Value) -> Applied
     ensures { result ≡ applied f x }
 {
@@ -147,12 +155,14 @@ pub fn apply(f: Value, x: Value) -> Applied
 }
 
 // The Int of an unsigned number of four bytes, its sign worked out by arithmetic; and the number of an Int.
+#[tactic(auto, unfolding(saiga::specs::Values::signed))]
 pub fn signed(w: u32) -> i32
     ensures { result ≡ signed_of w }
 {
     ((w as i64 + 2147483648) % 4294967296 - 2147483648) as i32
 }
 
+#[tactic(auto, unfolding(saiga::specs::Values::unsigned))]
 pub fn unsigned(z: i32) -> u32
     ensures { result ≡ unsigned_of z }
 {
@@ -171,6 +181,7 @@ pub fn wide(x: u8) -> u32
 }
 
 // Two and four bytes as a number, little-endian.
+#[tactic(auto, unfolding(saiga::specs::Values::of_bytes))]
 pub fn two(s: &[u8], at: usize) -> u32
     requires { at + 2 ≤ length s.now }
     ensures { result ≡ of_bytes (take 2 (drop at s.now)) }
@@ -261,6 +272,7 @@ pub fn kind_at(sheet: &[u8], attributes: usize, n: usize) -> u8
 }
 
 // The code of the base type that a byte names. A byte above 3, which no accepted sheet has for a type, is read as 3.
+#[tactic(auto, unfolding(saiga::specs::Values::base_of))]
 pub fn base_code(byte: u8) -> u8
     ensures { result ≡ base_code (base_of byte) }
 {
@@ -273,6 +285,7 @@ pub fn base_code(byte: u8) -> u8
 }
 
 // Whether a number is the four-byte form of a value of the type with this code.
+#[tactic(auto, unfolding(saiga::specs::Values::base_of, saiga::specs::Values::is_word))]
 pub fn is_word(nodes: usize, code: u8, w: u32) -> bool
     ensures { result ≡ is_word nodes (base_of code) w }
 {
@@ -285,6 +298,7 @@ pub fn is_word(nodes: usize, code: u8, w: u32) -> bool
 }
 
 // The value of such a number.
+#[tactic(auto, unfolding(saiga::specs::Values::base_of, saiga::specs::Values::of_word))]
 pub fn value_of(code: u8, w: u32) -> Value
     requires { is_word node_limit (base_of code) w ≡ true }
     ensures { result ≡ of_word (base_of code) w }
@@ -298,6 +312,7 @@ pub fn value_of(code: u8, w: u32) -> Value
 }
 
 // The four-byte form of a value.
+#[tactic(auto, unfolding(saiga::specs::Values::to_word))]
 pub fn word_of(v: Value) -> u32
     ensures { result ≡ to_word v }
 {
@@ -312,6 +327,7 @@ pub fn word_of(v: Value) -> u32
 }
 
 // The code of a value's type, and the value as a number; 4 and 0 of a function, which no answer brings and no entry keeps.
+#[tactic(auto, unfolding(saiga::specs::Values::type_code))]
 pub fn type_code(v: Value) -> u8
     ensures { result ≡ type_code v }
 {
@@ -325,6 +341,7 @@ pub fn type_code(v: Value) -> u8
     }
 }
 
+#[tactic(auto, unfolding(saiga::specs::Values::decimal))]
 pub fn decimal(v: Value) -> i64
     ensures { result ≡ decimal_of v }
 {

@@ -32,6 +32,7 @@ const SUBTRACT: u64 = 4 * TAG;
 pub const LIMIT: u64 = 68719476736;
 
 // A value in a word, and back.
+#[tactic(auto, unfolding(crate::specs::Packed::value_of, crate::specs::Packed::value_in))]
 pub fn pack(v: Value) -> u64
     ensures { (value_in result ≡ v) × (result < packed_limit) }
 {
@@ -45,6 +46,7 @@ pub fn pack(v: Value) -> u64
     }
 }
 
+#[tactic(auto, unfolding(saiga::specs::Values::function_of))]
 fn pack_function(f: Function) -> u64
     ensures { (function_of result ≡ f) × (result < 6) }
 {
@@ -58,6 +60,7 @@ fn pack_function(f: Function) -> u64
     }
 }
 
+#[tactic(auto, unfolding(crate::specs::Packed::holding_of))]
 fn pack_holding(h: Holding) -> u64
     ensures { (holding_of (result / word_limit) (result % word_limit) ≡ h) × (result < 5 * word_limit) }
 {
@@ -70,6 +73,7 @@ fn pack_holding(h: Holding) -> u64
     }
 }
 
+#[tactic(auto, unfolding(crate::specs::Packed::value_of, crate::specs::Packed::value_in))]
 pub fn unpack(p: u64) -> Value
     ensures { result ≡ value_in p }
 {
@@ -85,6 +89,7 @@ pub fn unpack(p: u64) -> Value
     }
 }
 
+#[tactic(auto, unfolding(crate::specs::Packed::holding_of))]
 fn unpack_holding(tag: u64, w: u32) -> Holding
     ensures { result ≡ holding_of tag w }
 {
