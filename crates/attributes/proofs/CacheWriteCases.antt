@@ -3,26 +3,24 @@ use mathlib.Core.Bool.{Bool, true, false}
 use mathlib.Core.List.{List}
 use mathlib.Core.Option.{none}
 use mathlib.Core.Path.{◌≡◌, refl, ap, sym, ◌∙◌}
-use Prim.Native.Nat.{ℕ, ◌+◌, ◌*◌, ◌-◌, ◌/◌, ◌%◌, ◌≤◌, ◌<◌}
+use Prim.Native.Nat.{ℕ, ◌+◌, ◌*◌, ◌-◌, ◌/◌, ◌%◌, ◌<◌}
 use native.Mathlib.Omega.{arith}
 use lib.Dec.{leb}
-use borrow.Author.Tests.{leb-false}
 use lib.ListN.{length, get_or}
-use Rattle.saiga.specs.Limits.{entry_limit}
 use Rattle.saiga.specs.declared.Fields.{Fields}
 use Rattle.saiga.specs.declared.Value.{Value}
 use Rattle.stores.specs.declared.Key.{Key}
 use Rattle.stores.specs.declared.Found.{Found}
 use Rattle.stores.specs.declared.Found.TheVariants.{Nothing}
 use Rattle.stores.specs.Walks.{Keyed, Free, Without}
-use Rattle.stores.specs.Keys.{Linked, find_key, found_of, FreeIn, key_in, fields_for, EntryPut}
+use Rattle.stores.specs.Keys.{find_key, found_of, FreeIn, key_in, fields_for, EntryPut}
 use Rattle.stores.proofs.Searches.{nothing-found}
 use Rattle.stores.proofs.Linked.{linked-without}
 use Rattle.engine.specs.declared.Registers.{Registers}
 use Rattle.engine.specs.Decode.{forms_size}
 use Rattle.engine.specs.OpenKeys.{form_key}
 use Rattle.engine.specs.Ready.{memory_of, innermost_place}
-use Rattle.engine.proofs.RunMemory.{form-at, node-fits, word_fits}
+use Rattle.engine.proofs.RunMemory.{form-at}
 use Rattle.engine.specs.Steps.{goes, appended, unless_found, cache_write, close_form}
 use Rattle.attributes.specs.Due.{WriteReady, CloseReady}
 
@@ -72,17 +70,6 @@ module _ (store : List ℕ) (kept : ℕ) (full : Bool) (is : full ≡ leb (lengt
   write-appends q v f are store' index' room absent put =
       writes-same store kept f (fields_for q v) (store', kept + 1) are (write_new f store' index' room (fields-new q v f are store kept absent) put)
 
-  pub put_linked : (f : Fields) (store' index' : List ℕ) → EntryPut store kept f store' index' → Linked store' (kept + 1) index'
-  put_linked f store' index' put = put.linked
-
-  -- A store that is not full has room for an entry.
-  module _ (room : full ≡ false) where
-    pub room-stands : 12 * kept + 12 ≤ length store
-    room-stands = let below = leb-false (length store / 12) kept (sym is ∙ room) in omega (arith, below)
-
-    pub room-few : (links : List ℕ) → WriteReady store links kept → kept < entry_limit
-    room-few links ready = omega (arith, room-stands, ready.short)
-
 -- The numbers of the innermost form stand at `f`.
 module _ (run : List ℕ) (m : Registers) (f : ℕ) (is : f ≡ innermost_place m) where
   -- its occurrence
@@ -97,9 +84,6 @@ module _ (run : List ℕ) (m : Registers) (f : ℕ) (is : f ≡ innermost_place 
       let small : k + 1 < forms_size = omega (arith, ready.node.opened, ready.node.few) in
       rw (form-at run k f is (omega arith), form-at run (k + 1) (f + 1) (omega (arith, is)) small)
       ready.not_kept
-
-  pub form-keyed : (store links : List ℕ) → CloseReady store links run m → Keyed closing
-  form-keyed store links ready = record { node = node-fits run m f is ready.node; attribute = omega arith; word = word_fits run m f is ready.word_small }
 
   -- the registers when its value is given to the frame around it
   abbrev closed : ℕ → Registers

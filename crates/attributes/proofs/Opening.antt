@@ -9,7 +9,7 @@ use lib.Dec.{eqb}
 use lib.ListN.{length, take, drop, get_or, set, length-drop}
 use lib.Seq.{length-take-le, take-set-le}
 use borrow.Author.Tests.{eqb-true, eqb-false, le-leb, lt-leb, ne_eqb}
-use Rattle.saiga.specs.Values.{base_of, is_word, node_of, of_bytes, of_word, to_word}
+use Rattle.saiga.specs.Values.{base_of, node_of, of_bytes, of_word, to_word}
 use Rattle.saiga.proofs.Preservation.{either}
 use Rattle.saiga.specs.declared.Fields.{Fields}
 use Rattle.saiga.specs.declared.Value.{Value}
@@ -31,7 +31,7 @@ use Rattle.engine.specs.FrameWords.{form_kind, held_attribute, held_node}
 use Rattle.engine.specs.Decode.{frame_limit, form_place, forms_in, opens_in}
 use Rattle.engine.specs.OpenKeys.{form_key, key_open}
 use Rattle.engine.specs.Ready.{memory_of}
-use Rattle.engine.specs.CodeSteps.{stepped_of, kept_after, forms_after, kept_in, Still}
+use Rattle.engine.specs.CodeSteps.{stepped_of, kept_after, forms_after, kept_in}
 use Rattle.engine.specs.declared.Step.{Step}
 use Rattle.engine.specs.declared.Step.TheVariants.{Goes, Waits, Finishes, Stops}
 use Rattle.engine.proofs.Limited.{within-goes, within-holds}
@@ -81,9 +81,6 @@ figure-kept store run m q v r store' kept' f by are written =
 pub answer-forms : (m r : Registers) (v : Value) (kept : ℕ) → r ≡ answered m kept v → r.forms ≡ m.forms
 answer-forms m r v kept by = ap (λ m. m.forms) by
 
-pub step_fits : (run : List ℕ) (m : Registers) → StepReady run m → m.steps + 1 < 18446744073709551616
-step_fits run m ready = ready.counts
-
 -- The piece is as long as its command says, and ends within the sheet.
 module _ (sheet : List ℕ) (number : ℕ) (here : PieceHere sheet number) (piece : List ℕ) (is : piece ≡ piece_at sheet (number - 1)) where
   abbrev size : ℕ
@@ -95,9 +92,6 @@ module _ (sheet : List ℕ) (number : ℕ) (here : PieceHere sheet number) (piec
       let length_at : number - 1 + 1 ≡ number = omega (arith, here.starts) in
       let piece-at : number - 1 + 3 ≡ number + 2 = omega (arith, here.starts) in
       rw (is, length_at, piece-at) (length-take-le size (drop (number + 2) sheet) (omega (arith, here.room, length-drop (number + 2) sheet)))
-
-  pub piece-short : number + 2 + length piece < 18446744073709551616
-  piece-short = omega (arith, piece-length, here.room, here.short)
 
   -- The form's numbers are written, and its frame's word.
   module _ (run : List ℕ) (m : Registers) (n a word f : ℕ) (few : m.forms < 64) (ready : StepReady run m) (f-is : f ≡ form_place m.forms) where
@@ -250,10 +244,6 @@ rule-opened sheet index run run' run'' m r q cell opening ready opened beyond pl
 
 -- ---- A kept value, or the definition
 
--- a step that the budget has can be counted
-pub step_counts : {steps budget : ℕ} → steps < budget → budget < 18446744073709551616 → steps + 1 < 18446744073709551616
-step_counts left fits = omega arith
-
 -- What the code found of an occurrence among the open forms.
 module _ (run : List ℕ) (m : Registers) (q : Key) (opening : Opening) (is : is_open_in opening ≡ key_open (forms_in run) m.forms q) where
   pub open-key : opening ≡ Open → key_open (forms_in run) m.forms q ≡ true
@@ -390,12 +380,6 @@ kept-linked r m store links same linked = rw same linked
 pub forms-opened : (r : Step) (m : Registers) (forms opens : List ℕ) → forms_after r m ≡ m.forms → Opened forms opens m.forms → Opened forms opens (forms_after r m)
 forms-opened r m forms opens same opened = rw same opened
 
-pub found-still : (r : Step) (mem : Memory) → Still r mem mem
-found-still (Goes after) _ = tt
-found-still Waits _ = refl
-found-still Finishes _ = refl
-found-still (Stops number) _ = refl
-
 -- A kept value is read within the store, and is one of its type.
 pub found-ready : (sheet index store links run : List ℕ) (m : Registers) (q : Key) → AttributeReady sheet index store links run m q.node q.attribute
     → q.word ≡ to_word m.value → (found : Found) → found_of found ≡ find_key store m.kept q → (j : ℕ) → found ≡ At j
@@ -412,9 +396,6 @@ found-ready sheet index store links run m q ready word found is j at_j =
     }
 
 module _ (sheet store : List ℕ) (m : Registers) (a j : ℕ) (ready : FoundReady sheet store m a j) where
-  pub found_word : (w code : ℕ) → w ≡ value_word store j → code ≡ result_at sheet a → is_word 1024 (base_of code) w ≡ true
-  found_word w code is_Is_word typed = rw (typed, is_Is_word) ready.word
-
   pub found-goes : (budget limit : ℕ) (mem : Memory) → m.steps < budget → m.steps < limit → (r : Registers) (v : Value) (w code : ℕ) → w ≡ value_word store j
       → code ≡ result_at sheet a → v ≡ of_word (base_of code) w → r ≡ answered m m.kept v
       → goes r mem ≡ within budget limit m (goes (answered m m.kept (of_word (base_of (result_at sheet a)) (value_word store j))) mem)
@@ -452,9 +433,6 @@ pub record DueStep (sheet index store links run : List ℕ) (m : Registers) (w n
       → AttributeReady sheet index store links run m (node_of (value_in (held_node w))) (held_attribute w)
 
 module _ (sheet index store links run : List ℕ) (m : Registers) (w node a : ℕ) (due : DueStep sheet index store links run m w node a) where
-  pub due-ready : AttributeReady sheet index store links run m node a
-  due-ready = rw (due.node-is, due.attribute-is) (due.ready (λ e. due.no_null (due.node-is ∙ e)))
-
   pub due-taken : (budget limit word : ℕ) (stepped : Stepped) → word ≡ to_word m.value
       → stepped
       ≡ take_kept sheet index budget limit (memory_of store run) m node a (find_key store m.kept record { node = node; attribute = a; word = word })

@@ -17,7 +17,7 @@ use Rattle.values.specs.Layout.{attributes_in}
 use Rattle.expressions.specs.declared.QuestionCheck.{QuestionCheck}
 use Rattle.expressions.specs.declared.QuestionCheck.TheVariants as for-question
 use Rattle.expressions.specs.Forms.{question_of}
-use Rattle.expressions.proofs.Questions.{question-refused, question-accepted}
+use Rattle.expressions.proofs.Questions.{question-refused}
 use Rattle.sheets.specs.declared.SheetCheck.{SheetCheck}
 use Rattle.sheets.specs.declared.SheetCheck.TheVariants as for-sheet
 use Rattle.sheets.specs.Scan.{attributes_place, nodes_place, check_of, Checks}

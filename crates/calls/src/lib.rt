@@ -25,7 +25,7 @@ use sheets::lookup::INDEX_SIZE;
 use stores::LINKS_SIZE;
 
 // What a call brings: the value with its steps and the number kept, or a refusal with its number, place, steps and the number kept.
-#[derive(Drop)]
+#[derive(Clone, Copy)]
 pub enum Answer {
     Value(Value, usize, usize),
     Refusal(u32, usize, usize, usize),

@@ -2,7 +2,6 @@
 use mathlib.Core.List.{List, []}
 use mathlib.Core.Path.{◌≡◌, ap, ◌∙◌}
 use Prim.Native.Nat.{ℕ}
-use native.Mathlib.Omega.{arith}
 use lib.ListN.{length}
 use Rattle.saiga.specs.Limits.{sheet_limit, store_limit}
 use Rattle.saiga.specs.Sheet.{Sheet, accepted}
@@ -10,7 +9,7 @@ use Rattle.saiga.specs.Store.{check_store, read_entries}
 use Rattle.sheets.specs.Scan.{Checks}
 use Rattle.sheets.specs.Notes.{ChecksNotes}
 use Rattle.sheets.specs.declared.SheetCheck.{SheetCheck}
-use Rattle.sheets.specs.declared.SheetCheck.TheVariants.{Refused, Accepted}
+use Rattle.sheets.specs.declared.SheetCheck.TheVariants.{Accepted}
 use Rattle.stores.specs.Keys.{store_check_of, StoreChecked}
 use Rattle.stores.specs.declared.StoreCheck.{StoreCheck}
 use Rattle.calls.proofs.CheckLaws.{sheet-prepared, sheet-noted, sheet-of, store-prepared}
@@ -23,14 +22,6 @@ empty-store s store e = rw e
 
 module _ {sheet index : List ℕ} (notes : List ℕ) {store links : List ℕ} {r : SheetCheck} (checked : Checks sheet r index) (rules : ChecksNotes sheet r index notes)
     (long : length notes ≡ sheet_limit) where
-  pub prepared-refused : {number place : ℕ} → r ≡ Refused number place → Prepared (Refused number place) sheet index notes store 0 links
-  prepared-refused e =
-      record {
-        checked = rw e at checked;
-        noted = λ m n h. let z : ◌≡◌ {A = ℕ} 0 1 = cc in absurd (omega arith);
-        store_ready = λ m n h. let z : ◌≡◌ {A = ℕ} 0 1 = cc in absurd (omega arith);
-      }
-
   pub prepared-accepted : {attributes nodes : ℕ} {q : StoreCheck} → r ≡ Accepted attributes nodes → length store ≡ store_limit → StoreChecked sheet attributes nodes store 0 links q
       → Prepared (Accepted attributes nodes) sheet index notes store 0 links
   unfolding store_check_of

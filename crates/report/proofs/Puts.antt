@@ -10,7 +10,7 @@ use Rattle.saiga.specs.Calls.{leaves}
 use Rattle.sheets.specs.declared.SheetCheck.{SheetCheck}
 use Rattle.sheets.specs.declared.SheetCheck.TheVariants.{Refused, Accepted}
 use Rattle.calls.specs.Answers.{answer_of}
-use Rattle.calls.specs.Prepared.{PreparedSheet, NotedSheet, PreparedStore}
+use Rattle.calls.specs.Prepared.{PreparedSheet, NotedSheet}
 use Rattle.calls.proofs.CheckLaws.{sheet-prepared, sheet-refused, refused-by-sheet}
 use Rattle.calls.proofs.Preparing.{refuses}
 use Rattle.lines.specs.Lines.{line_of}
@@ -42,15 +42,6 @@ module _ {check : SheetCheck} {sheet index notes store : List ℕ} {kept : ℕ} 
   pub notes-ready : {attributes nodes : ℕ} → check ≡ Accepted attributes nodes → NotedSheet sheet index notes
   notes-ready e = p.noted _ _ e
 
-  pub store_ready : {attributes nodes : ℕ} → check ≡ Accepted attributes nodes → PreparedStore sheet store kept links
-  store_ready e = p.store_ready _ _ e
-
-  pub put-accepted : {question left after : List ℕ} {r : Declared.Answer} → answer_of r ≡ (ask sheet (lent store kept) (asks question)).answer
-      → left ≡ (ask sheet (lent store kept) (asks question)).store → PreparedStore sheet left (answer_of r).kept after
-      → Put check sheet index notes question store kept left after r
-  put-accepted a s ready =
-      record { answer = a; store_is = s; prepared = record { checked = p.checked; noted = p.noted; store_ready = λ m n h. ready } }
-
 put-after : {check : SheetCheck} {sheet index notes question store : List ℕ} {kept : ℕ} {left links : List ℕ} {r : Declared.Answer}
     → Put check sheet index notes question store kept left links r → lent left (answer_of r).kept ≡ after sheet (lent store kept) question
 unfolding after leaves
@@ -62,14 +53,10 @@ put-line : {check : SheetCheck} {sheet index notes question store : List ℕ} {k
     → Line (sets buffer 0 (line_of (answer_of r))) n (line_of (ask sheet (lent store kept) (asks question)).answer)
 put-line {r = r} p buffer n size is fits = rw (← p.answer) (sets-line buffer (line_of (answer_of r)) n size is fits)
 
--- What the question leaves, with the number kept that its answer has, and the line of its answer.
+-- What the question leaves, where `kept'` is the number kept that its answer has, and the line of its answer.
 module _ (check : SheetCheck) (sheet index notes question store : List ℕ) (kept : ℕ) (left links : List ℕ) (r : Declared.Answer) (p : Put check sheet index notes question store kept left links r) where
-  module _ (kept' : ℕ) (same : kept' ≡ (answer_of r).kept) where
-    pub leaves-prepared : Prepared check sheet index notes left kept' links
-    leaves-prepared = rw same p.prepared
-
-    pub leaves_after : lent left kept' ≡ after sheet (lent store kept) question
-    leaves_after = rw same (put-after p)
+  pub leaves_after : (kept' : ℕ) → kept' ≡ (answer_of r).kept → lent left kept' ≡ after sheet (lent store kept) question
+  leaves_after kept' same = rw same (put-after p)
 
   pub leaves-line : (buffer line : List ℕ) (n : ℕ) → length buffer ≡ 128 → n ≡ length (line_of (answer_of r)) → line ≡ sets buffer 0 (line_of (answer_of r)) → n ≤ 127
       → Line line n (line_of (ask sheet (lent store kept) (asks question)).answer)

@@ -1,9 +1,8 @@
 -- What a turn leaves, as its contract has it, by what comes next; and where the bytes at hand stand in the buffer.
 use mathlib.Core.Bool.{Bool, true, false}
 use mathlib.Core.List.{List, [], ◌∷◌, ◌++◌, append-nil}
-use mathlib.Core.Logic.{inl, inr}
 use mathlib.Core.Path.{◌≡◌, refl, sym, ap, ◌∙◌}
-use Prim.Native.Nat.{ℕ, zero, suc, ◌+◌, ◌-◌, ◌≤◌, ◌<◌}
+use Prim.Native.Nat.{ℕ, zero, suc, ◌+◌, ◌-◌, ◌≤◌}
 use native.Mathlib.Omega.{arith}
 use lib.Dec.{eqb}
 use lib.ListN.{length, take, drop, length-drop}
@@ -17,8 +16,7 @@ use Rattle.stream.specs.Stream.{front}
 use Rattle.stream.specs.Next.{next_of}
 use Rattle.stream.proofs.Items.{told}
 use Rattle.report.specs.Printed.{asks, lines}
-use Rattle.report.specs.Report.{View, view_of, next, after, turned_by, turned, given_by, given, Fetched}
-use Rattle.report.specs.declared.State.{State}
+use Rattle.report.specs.Report.{View, next, after, turned_by, turned, given_by, given}
 
 -- ---- By what comes next
 
@@ -76,11 +74,6 @@ module _ (input : List ℕ) (from to : ℕ) (ordered : from ≤ to) where
   hand-length : to ≤ length input → length at-hand ≡ to - from
   hand-length within = length-take-le (to - from) (drop from input) (rw length-drop (omega arith))
 
-  -- Where more is asked for there is room behind the bytes at hand, once they are moved to the front.
-  pub more_room : (came held : ℕ) (moved : List ℕ) (n : Next) → to + came ≤ length input → 65537 ≤ length input → (n ≡ More → length at-hand < 65537) → n ≡ More → held ≡ to - from
-      → length moved ≡ length input → held < length moved
-  more_room came held moved n within room small more is same = omega (arith, small more, hand-length (omega (arith, within)))
-
   module _ (within : to ≤ length input) (ended : Bool) (n : ℕ) (is : Question n ≡ next_of (front at-hand) ended) where
     question-within : from + 2 + n ≤ to
     question-within = omega (arith, (told at-hand ended (Question n) is).0, hand-length within)
@@ -106,28 +99,7 @@ module _ (input : List ℕ) (from to : ℕ) (ordered : from ≤ to) where
   more-ended : (came : ℕ) → to + came ≤ length input → eqb came 0 ≡ eqb (length (take came (drop to input))) 0
   more-ended came within = rw (length-take-le came (drop to input) (rw length-drop (omega arith)))
 
-  -- The bytes at hand were moved to the front, and a read left them there.
-  fetched-hand : (moved left : List ℕ) (held : ℕ) → held ≡ to - from → take (to - from) moved ≡ at-hand → take held left ≡ take held moved
-      → take (held - 0) (drop 0 left) ≡ at-hand
-  fetched-hand moved left held h m l = let e : held - 0 ≡ held = omega arith in rw (e, l, h, m)
-
--- ---- What a read and a turn leave
-
-module _ (input : List ℕ) (s : State) (n : Next) (ordered : s.from ≤ s.to) (comes : n ≡ next (view_of input [] s)) where
-  pub fetched : (moved left : List ℕ) (held came : ℕ) (failed : Bool) → n ≡ More → held ≡ s.to - s.from → take (s.to - s.from) moved ≡ take (s.to - s.from) (drop s.from input)
-      → take held left ≡ take held moved → held + came ≤ length moved → length left ≡ length moved → (failed ≡ true → came ≡ 0)
-      → Fetched input left s record { from = 0; to = held; came = came; kept = s.kept; ended = s.ended; failed = failed; going = s.going; line = s.line }
-  fetched moved left held came failed more is front-is kept-front within same nothing = record {
-    within = (omega arith, omega arith);
-    same = λ store. ap (λ h. view h s.ended s.going (lent store s.kept)) (fetched-hand input s.from s.to ordered moved left held is front-is kept-front);
-    unasked = λ store no. absurd (no (sym comes ∙ more));
-    failing = λ t. inr (nothing t);
-  }
-
--- where no more is asked for
-pub unfetched : (input : List ℕ) (s : State) → s.from ≤ s.to → s.to + s.came ≤ length input → Fetched input input s s
-unfetched input s ordered within =
-    record { within = (ordered, within); same = λ store. refl; unasked = λ store other. (refl, refl); failing = λ t. inl t }
+-- ---- What a turn leaves
 
 module _ (sheet input store : List ℕ) (from to came kept : ℕ) (ended going : Bool) (n : Next) (comes : n ≡ next_of (front (take (to - from) (drop from input))) ended) where
   -- what the turn works on, and what was read for it

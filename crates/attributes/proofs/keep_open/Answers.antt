@@ -11,9 +11,9 @@ free_cell-cell-requires c = none-linked _ _ _ c.args.key c.requires.write_ready.
 pub append-requires-clause-keyed : goal.append-requires-clause-keyed
 append-requires-clause-keyed c =
     let are = c.fields_for.ensures in (
-      fields-keyed c.args.key c.args.value c.fields_for.result are c.requires.write_ready.1,
-      fields-new c.args.key c.args.value c.fields_for.result are _ _ c.requires.absent,
-      fields_free c.args.key c.args.value c.fields_for.result are _ _ c.free_cell-cell.ensures,
+      fields-keyed c.args.key _ c.fields_for.result are c.requires.write_ready.1,
+      fields-new c.args.key _ c.fields_for.result are _ _ c.requires.absent,
+      fields_free c.args.key _ c.fields_for.result are _ _ c.free_cell-cell.ensures,
     )
 
 pub returns-clause-written : goal.returns-clause-written

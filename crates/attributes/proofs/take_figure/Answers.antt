@@ -20,12 +20,12 @@ returns-then-limits-m-2-clause-follows c run =
 
 pub keep-kept-requires-clause-write_ready : goal.keep-kept-requires-clause-write_ready
 keep-kept-requires-clause-write_ready c =
-    (c.requires.write_ready.0, fields-keyed c.args.key c.args.v c.fields_for.result c.fields_for.ensures c.requires.write_ready.1)
+    (c.requires.write_ready.0, fields-keyed c.args.key _ c.fields_for.result c.fields_for.ensures c.requires.write_ready.1)
 
 pub keep-kept-requires-clause-absent : goal.keep-kept-requires-clause-absent
 keep-kept-requires-clause-absent c = (
-  fields-new c.args.key c.args.v c.fields_for.result c.fields_for.ensures _ _ c.requires.absent.0,
-  fields_free c.args.key c.args.v c.fields_for.result c.fields_for.ensures _ _ c.requires.absent.1,
+  fields-new c.args.key _ c.fields_for.result c.fields_for.ensures _ _ c.requires.absent.0,
+  fields_free c.args.key _ c.fields_for.result c.fields_for.ensures _ _ c.requires.absent.1,
 )
 
 pub returns-clause-follows : goal.returns-clause-follows

@@ -1,0 +1,23 @@
+-- `calls::ask` meets its contract: the refusals of the checks, or the run. The length of the run's memory is what `put` keeps of the slice that it is
+-- lent.
+use Rattle.std.proofs.Common.{rules, ◌∙◌}
+use Rattle.calls.proofs.Preparing.{refuses, refusal-keeps, scratch-as-lent, scratch-used, checked_refused, checked-accepts, checked-askable}
+use Rattle.calls.proofs.ask.Goals as goal
+
+pub put-requires-clause-askable : goal.put-requires-clause-askable
+put-requires-clause-askable c = checked-askable c.check.ensures c.in-Accepted.is (search rules)
+
+pub returns-in-Refused : goal.returns-in-Refused
+returns-in-Refused c =
+    let stops = checked_refused c.check.ensures c.in-Refused.is in
+    let (answer, zeros, left) = refuses _ _ _ c.refuse.result stops c.refuse.ensures in
+    record {
+      answer = answer;
+      tally_after = c.clear.ensures ∙ zeros;
+      store_after = left;
+      indexes = rw (refusal-keeps _ _ _ c.refuse.result c.refuse.ensures) c.check.ensures.scratch;
+      run_scratch = scratch-as-lent (search rules);
+    }
+
+pub returns-in-Accepted-clause-run_scratch : goal.returns-in-Accepted-clause-run_scratch
+returns-in-Accepted-clause-run_scratch c = scratch-used (checked-accepts c.check.ensures c.in-Accepted.is).1 (search rules)
