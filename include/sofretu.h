@@ -1,4 +1,4 @@
-/* Sofretu, the proved settings engine, for C99 and C++. Include this file and link libsofretu.a (`rt staticlib sofretu`). scripts/install.sh puts
+/* Sofretu, the proved settings engine, for C99 and C++. Include this file and link libsofretu.a (`scripts/build.sh`). scripts/install.sh puts
  * both under a prefix, with a pkg-config file. A question is put so:
  *
  *     static sofretu_sheet sheet;

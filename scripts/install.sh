@@ -8,7 +8,7 @@ usage: scripts/install.sh PREFIX
 
 Puts PREFIX/lib/libsofretu.a, PREFIX/include/sofretu.h and PREFIX/lib/pkgconfig/sofretu.pc. PREFIX is an absolute path, such as /usr/local.
 If the variable DESTDIR is set, all goes into that folder first, for a package: DESTDIR/PREFIX/lib/libsofretu.a and so on.
-The library is made by 'rt staticlib sofretu'. A C program is then compiled so:
+The library is made by 'scripts/build.sh'. A C program is then compiled so:
 
     export PKG_CONFIG_PATH=PREFIX/lib/pkgconfig
     gcc program.c $(pkg-config --cflags --libs sofretu)
@@ -34,7 +34,7 @@ esac
 root=$(cd "$(dirname "$0")/.." && pwd)
 library=$root/target/staticlib/libsofretu.a
 header=$root/include/sofretu.h
-[ -f "$library" ] || refuse "$library is not there: run 'rt staticlib sofretu' in $root first" 1
+[ -f "$library" ] || refuse "$library is not there: run 'scripts/build.sh' in $root first" 1
 version=$(sed -n 's/^#define SOFRETU_VERSION_TEXT "\([0-9.]*\)"$/\1/p' "$header")
 [ -n "$version" ] || refuse "$header has no SOFRETU_VERSION_TEXT" 1
 

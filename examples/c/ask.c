@@ -1,7 +1,7 @@
 /* Sheet L of document 01 and four questions to one store, in a session. Prints number, place, type, value, steps and kept of each answer, then where
  * the steps of the first went, and the figures that the store keeps. C99 or C++.
  *
- *     rt staticlib sofretu
+ *     scripts/build.sh
  *     gcc -std=c99 -Iinclude examples/c/ask.c target/staticlib/libsofretu.a -o ask && ./ask
  */
 #include <inttypes.h>

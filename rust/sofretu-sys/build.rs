@@ -1,4 +1,4 @@
-//! Links the static library that `rt staticlib sofretu` writes.
+//! Links the static library that `scripts/build.sh` writes.
 
 use std::env;
 use std::path::PathBuf;
@@ -19,7 +19,7 @@ fn main() {
                 env!("CARGO_MANIFEST_DIR"),
                 "/../../target/staticlib"
             )),
-            "run `rt staticlib sofretu` in Sofretu's repository, or set SOFRETU_LIB_DIR to the directory that has it",
+            "run `scripts/build.sh` in Sofretu's repository, or set SOFRETU_LIB_DIR to the directory that has it",
         ),
     };
     let library = directory.join("libsofretu.a");

@@ -22,7 +22,7 @@ use Rattle.calls.specs.declared.checks.Verdict.{Verdict}
 use Rattle.calls.specs.declared.checks.Verdict.TheVariants.{Refused, Accepted}
 use Rattle.calls.specs.Answers.{answer_of}
 use Rattle.calls.specs.Prepared.{NotedSheet, PreparedStore}
-use Rattle.calls.specs.Verdict.{SheetOf, from_budget, Indexes, CallChecked}
+use Rattle.calls.specs.Verdict.{SheetOf, from_budget, CallChecked}
 use Rattle.calls.proofs.CheckLaws.{SheetWith, sheet-of, same-sheet, verdict-refused, verdict-accepted, asked-refused, asked-accepted, from-store, from-sheet}
 use Rattle.calls.specs.Askable.{Askable, RunScratch}
 
@@ -73,19 +73,6 @@ module _ {sheet index notes question store links : List ℕ} {kept budget : ℕ}
         linked = checked.scratch.linked c.sheet found.sheet-is c.entries found.entries-are;
         memory_length = memory_length;
       }
-
--- the indexes after a run, whose store is linked
-pub indexes-after : {sheet index notes store store' links links' : List ℕ} {kept kept' : ℕ} → Indexes sheet store kept index notes links → Linked store' kept' links'
-    → Indexes sheet store' kept' index notes links'
-indexes-after before linked =
-    record {
-      index_length = before.index_length;
-      indexed = before.indexed;
-      notes_length = before.notes_length;
-      noted = before.noted;
-      links_length = linked.trie.size;
-      linked = λ s e entries f. linked;
-    }
 
 -- ---- A call of a checked sheet and a checked store
 

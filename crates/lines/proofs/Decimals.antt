@@ -7,7 +7,7 @@ use native.Mathlib.Nat.{pow-suc, not-suc-le-zero}
 use native.Mathlib.Omega.{arith}
 use lib.Dec.{ltb}
 use lib.IntN.{ℤ, pos, negsuc, nat_abs}
-use lib.Signed.{mag, lt_z}
+use lib.Signed.{lt_z}
 use lib.ListN.{length, length-append}
 use borrow.Author.Tests.{ltb-true, ltb-false, lt-ltb, le-ltb}
 use Rattle.lines.specs.Lines.{decimal_within, decimal, signed_decimal}
@@ -75,7 +75,3 @@ pub other-decimal : (z : ℤ) → lt_z z (pos 0) ≡ false → signed_decimal z 
 unfolding signed_decimal
 other-decimal (pos n) t = refl
 other-decimal (negsuc n) t = absurd (true≢false t)
-
-pub negative-distance : (z : ℤ) → lt_z z (pos 0) ≡ true → mag z + 1 ≡ nat_abs z
-negative-distance (pos n) t = absurd (not-suc-le-zero (ltb-true n 0 t))
-negative-distance (negsuc n) t = omega arith

@@ -37,6 +37,8 @@ module _ (budget limit : ℕ) (mem : Memory) (m : Registers) (r a : Applied) (is
     pub right-goes : m.steps < budget → m.steps < limit → goes (answered m m.kept v) mem ≡ take_right budget limit mem m a
     right-goes left before = within-goes budget limit m _ left before ∙ right-within
 
+pub ruleset right_laws = (right-overflows, right-spent, right-waits, right-goes)
+
 pub right-keeps : (budget limit : ℕ) (mem : Memory) (m : Registers) (a : Applied) → kept_in m.kept (take_right budget limit mem m a) ≡ m.kept
 right-keeps budget limit mem m a = right-holds (λ st. kept_in m.kept st ≡ m.kept) budget limit mem m a refl refl refl (λ v _. refl)
 

@@ -2,16 +2,15 @@
 use mathlib.Core.Option.{some}
 use mathlib.Core.List.{List}
 use mathlib.Core.Path.{◌≡◌, sym, ◌∙◌}
-use Prim.Native.Nat.{ℕ, ◌+◌, ◌^◌, ◌≤◌, ◌<◌}
-use native.Mathlib.Omega.{arith}
-use lib.ListN.{length, get_or, set}
-use Rattle.saiga.specs.Limits.{budget_limit, tally_rows, applications_row, conditions_row}
+use Prim.Native.Nat.{ℕ, ◌+◌}
+use lib.ListN.{get_or, set}
+use Rattle.saiga.specs.Limits.{applications_row, conditions_row}
 use Rattle.engine.specs.declared.Registers.{Registers}
 use Rattle.engine.specs.declared.Step.{Step}
 use Rattle.engine.specs.declared.Step.TheVariants.{Goes, Waits, Finishes, Stops}
 use Rattle.engine.specs.FrameWords.{kind_of, if_kind, left_kind, skip_kind, right_kind, node_kind, parameter_kind, form_kind, held_attribute}
 use Rattle.engine.specs.Machine.{Frame}
-use Rattle.engine.specs.Tallied.{frame_row, word_row, counted_in, rows_after, RowsWithin}
+use Rattle.engine.specs.Tallied.{frame_row, word_row, counted_in, rows_after}
 use Rattle.engine.proofs.Decoding.{WordOf, if-kind, left-kind, skip-kind, right-kind, node-kind, parameter-kind, forward-kind}
 use Rattle.runs.proofs.ReadyForAttributes.{OtherKind, other-kind}
 
@@ -33,11 +32,6 @@ module _ {r : Step} (row : ℕ) (rows : List ℕ) where
   pub rows-stopped : {number : ℕ} → r ≡ Stops number → rows ≡ rows_after r (some row) rows
   unfolding rows_after
   rows-stopped is = rw is
-
--- there is room for one more
-pub row-ready : {budget : ℕ} {rows : List ℕ} (row : ℕ) → RowsWithin budget rows → budget ≤ budget_limit → row < tally_rows
-    → (row < length rows) × (get_or rows row 0 + 1 < 2 ^ 64)
-row-ready row w permitted inside = (rw w.size inside, omega (arith, w.few row))
 
 -- ---- By the kind of the frame, whose word is w
 

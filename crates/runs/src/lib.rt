@@ -52,6 +52,7 @@ fn give_if(notes: &[u8], e: &[u8], memory: &mut [u64], limits: Limits, m: Regist
 
 // An application has its argument: what the function that the frame's word holds gives of it, or overflow; then the limits of a counted step, and
 // the step.
+#[tactic(auto, using(crate::proofs::Limits::right_laws), unfolding(engine::specs::CodeSteps::stepped_of))]
 fn give_right(limits: Limits, m: Registers, w: u64) -> Step
     requires { 1 ≤ m.frames }
     ensures { (mem : Memory) → stepped_of result mem

@@ -21,10 +21,6 @@ bytes_below (suc n) (b ∷ l) h = omega (arith, h 0, bytes_below n l λ i. h (su
 
 module _ (l : List ℕ) (at : ℕ) where
   -- The bytes, read one by one.
-  pub two-read : at + 2 ≤ length l → (a b : ℕ) → a ≡ get_or l at 0 → b ≡ get_or l (at + 1) 0 → a + 256 * b ≡ of_bytes (take 2 (drop at l))
-  unfolding of_bytes
-  two-read h a b p q = rw (p, q) (simp towards_suc (rw (bytes-at 1 l at (omega arith), bytes-at 0 l (suc at) (omega arith)) (omega arith)))
-
   pub four-read : at + 4 ≤ length l → (a b c d : ℕ) → a ≡ get_or l at 0 → b ≡ get_or l (at + 1) 0 → c ≡ get_or l (at + 2) 0 → d ≡ get_or l (at + 3) 0
       → a + 256 * (b + 256 * (c + 256 * d)) ≡ of_bytes (take 4 (drop at l))
   unfolding of_bytes

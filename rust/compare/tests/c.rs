@@ -489,7 +489,7 @@ fn what_cannot_be_installed_is_said_in_a_line() {
         .expect("sh runs");
     let line = String::from_utf8(said.stderr).expect("text");
     assert_eq!(said.status.code(), Some(1), "{line}");
-    assert!(line.contains("run 'rt staticlib sofretu' in "), "{line}");
+    assert!(line.contains("run 'scripts/build.sh' in "), "{line}");
     assert_eq!(line.lines().count(), 1, "{line}");
     assert!(files(&stage).is_empty());
 }

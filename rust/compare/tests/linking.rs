@@ -116,7 +116,7 @@ fn outside_a_repository_with_a_library_one_is_told_what_to_run() {
     let said = said(&output);
     let told = said.lines().find(|line| line.contains("is missing: "));
     let told = told.unwrap_or_else(|| panic!("{said}"));
-    assert!(told.ends_with("run `rt staticlib sofretu` in Sofretu's repository, or set SOFRETU_LIB_DIR to the directory that has it"), "{told}");
+    assert!(told.ends_with("run `scripts/build.sh` in Sofretu's repository, or set SOFRETU_LIB_DIR to the directory that has it"), "{told}");
 }
 
 /// A directory with all it holds.

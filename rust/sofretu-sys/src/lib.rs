@@ -1,4 +1,4 @@
-//! The C calls of the static library that `rt staticlib sofretu` writes, and each of them over slices and the four kinds of scratch.
+//! The C calls of the static library that `scripts/build.sh` writes, and each of them over slices and the four kinds of scratch.
 //!
 //! A call reads what a slice spans and writes what it is lent as `&mut`; the borrows give it that for as long as it runs. It asks
 //! nothing of what lent memory holds, unless its function says so. For safe types over these calls see the crate `sofretu`.

@@ -2,7 +2,7 @@
 //!
 //! A compiled rule sheet is a string of bytes; a question is a small expression; worked-out figures are kept between questions in
 //! a store that the caller lends. Whatever bytes come in, every call ends with a value or a numbered refusal. The engine is the
-//! static library that `rt staticlib sofretu` writes from proved code; this crate is a thin, safe cover over its C calls.
+//! static library that `scripts/build.sh` writes from proved code; this crate is a thin, safe cover over its C calls.
 //!
 //! Load a [`Sheet`], open a [`Session`] on it with a [`Store`], and [`ask`](Session::ask):
 //!
@@ -77,7 +77,7 @@
 //!
 //! # Linking
 //!
-//! The build looks for `libsofretu.a` in the directory that the variable `SOFRETU_LIB_DIR` names, and else where `rt staticlib sofretu` puts it in
+//! The build looks for `libsofretu.a` in the directory that the variable `SOFRETU_LIB_DIR` names, and else where `scripts/build.sh` puts it in
 //! Sofretu's own repository. With `SOFRETU_NO_LINK=1` it looks for none: enough to check and to document a program, not to run it.
 //!
 //! "Document 01" is the paper *Settings sheets evaluated by Saiga*.

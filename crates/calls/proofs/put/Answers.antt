@@ -1,4 +1,5 @@
 -- `calls::put` meets its contract: the run leaves off with what the definition brings, and does not pause.
+use Rattle.calls.specs.Answers.{answer_of}
 use Rattle.calls.proofs.Asking.{runs, rows-begin, finished, stopped, paused}
 use Rattle.calls.proofs.put.Goals as goal
 
@@ -9,6 +10,7 @@ pub run-requires-clause-rows_within : goal.run-requires-clause-rows_within
 run-requires-clause-rows_within c = search rows-begin
 
 pub returns-in-Finishes : goal.returns-in-Finishes
+unfolding answer_of
 returns-in-Finishes c =
     let ensured = c.run.ensures in
     let (answer, (tally, (store, linked))) =

@@ -164,7 +164,7 @@ fn stream(table: &Table) {
         .current_dir(&place)
         .stdin(File::open(place.join("input")).expect("a file"))
         .output()
-        .expect("`rt check report` links target/bin/report");
+        .expect("`scripts/build.sh` puts target/bin/report there");
     let printed = String::from_utf8(output.stdout).expect("text");
     assert!(printed.lines().eq(table.column("Prints")), "{printed}");
 }

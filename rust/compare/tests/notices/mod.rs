@@ -3,7 +3,7 @@
 
 use std::fs::{self, File};
 use std::io::{self, Write as _};
-use std::os::unix::process::{CommandExt as _, ExitStatusExt as _};
+use std::os::unix::process::CommandExt as _;
 use std::path::Path;
 use std::process::{Command, ExitStatus, Stdio};
 use std::thread::{self, JoinHandle};
@@ -30,7 +30,7 @@ fn without(command: &mut Command, descriptor: i32) {
     unsafe { command.pre_exec(closes) };
 }
 
-/// The program starts with SIGPIPE ignored. Otherwise the standard library has it end a program, as is usual.
+/// The program starts with SIGPIPE ignored. Otherwise the standard library has it start with the signal's usual action.
 fn ignoring_sigpipe(command: &mut Command) {
     const IGNORED: usize = 1;
     let ignores = || {
@@ -124,18 +124,22 @@ fn an_output_that_nobody_reads_ends_the_run() {
     }
 }
 
+/// The program ignores SIGPIPE by itself, so what starts it need not.
 #[test]
-fn an_output_that_nobody_reads_ends_the_program_by_the_signal() {
+fn an_output_that_nobody_reads_is_told_whatever_starts_the_program() {
     let place = directory("unread-output", &Sheet::Missing);
     let (questions, _) = dials(3);
-    let mut command = program(&place);
-    command
-        .stdin(input(&place, &questions))
-        .stdout(unread())
-        .stderr(Stdio::piped());
-    let (status, wrote) = run(&mut command);
-    assert_eq!(status.signal(), Some(SIGPIPE));
-    assert_eq!(wrote.notices, "");
+    for prepare in [(|_| {}) as fn(&mut Command), ignoring_sigpipe] {
+        let mut command = program(&place);
+        command
+            .stdin(input(&place, &questions))
+            .stdout(unread())
+            .stderr(Stdio::piped());
+        prepare(&mut command);
+        let (status, wrote) = run(&mut command);
+        assert!(status.success(), "{status}");
+        assert_eq!(wrote.notices, SHEET_MISSING.to_string() + LINE_UNWRITTEN);
+    }
 }
 
 #[test]
@@ -166,29 +170,27 @@ fn standard_error_changes_nothing_that_is_printed() {
     let place = directory("no-errors", &Sheet::Missing);
     let (mut questions, _) = dials(3);
     questions.push(6);
-    let printed = |signalled: bool, prepare: fn(&mut Command)| {
+    let printed = |prepare: fn(&mut Command)| {
         let mut command = program(&place);
         command
             .stdin(input(&place, &questions))
             .stdout(Stdio::piped());
         prepare(&mut command);
         let (status, wrote) = run(&mut command);
-        assert_eq!(status.signal(), signalled.then_some(SIGPIPE));
-        assert_eq!(status.code(), (!signalled).then_some(0));
+        assert!(status.success(), "{status}");
         assert_eq!(wrote.lines, "2 0 0 0 0 0\n".repeat(4));
         wrote.notices
     };
-    let told = printed(false, |command| {
+    let told = printed(|command| {
         command.stderr(Stdio::piped());
     });
     assert_eq!(told, SHEET_MISSING.to_string() + QUESTION_CUT);
-    printed(false, |command| {
+    printed(|command| {
         command.stderr(full());
     });
-    printed(false, |command| without(command, 2));
-    printed(false, |command| ignoring_sigpipe(command.stderr(unread())));
-    // The notices come after the last line, so that this signal takes none away.
-    printed(true, |command| {
+    printed(|command| without(command, 2));
+    printed(|command| ignoring_sigpipe(command.stderr(unread())));
+    printed(|command| {
         command.stderr(unread());
     });
 }

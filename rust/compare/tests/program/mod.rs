@@ -1,4 +1,4 @@
-//! The report program, as `rt check` links it, run in a directory of its own.
+//! The report program, as `scripts/build.sh` links it, run in a directory of its own.
 
 pub mod traced;
 
@@ -66,7 +66,10 @@ pub fn directory(name: &str, sheet: &Sheet) -> PathBuf {
 /// The program, to be run in this directory.
 pub fn program(directory: &Path) -> Command {
     let file = Path::new(ROOT).join("target/bin/report");
-    assert!(file.exists(), "`rt check report` links target/bin/report");
+    assert!(
+        file.exists(),
+        "`scripts/build.sh` puts target/bin/report there"
+    );
     let mut command = Command::new(file);
     command.current_dir(directory);
     command
