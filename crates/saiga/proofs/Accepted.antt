@@ -207,7 +207,7 @@ forward-fits : (s : Sheet) (part : ℕ) (l : List ℕ) → Fit s part (suc (leng
 unfolding read_forward rule_scope forward_scope definition_expr
 forward-fits s part l =
     let n = of_bytes (take 2 (drop 1 l)) in
-    require-both-fits s part _ (leb part 3 && leb (3 + n) (length l)) (leb 3 (length l)) 2 _ (omega arith) λ fit long.
+    require-both-fits s part _ _ (leb 3 (length l)) 2 _ (omega arith) λ fit long.
     require-fits s part _ _ 4 _ (omega arith) λ declared.
     require-fits s part _ _ 5 _ (omega arith) λ new.
     require-piece-fits s part _ _ _ _ _ λ e reads typed.

@@ -33,15 +33,15 @@ module _ (s : List Entry) (os : List Occurrence) (o : Occurrence) where
 module _ (s : List Entry) (os : List Occurrence) (o : Occurrence) where
   pub not-circular-kept : {v : Value} → kept s o ≡ some v → circular s os o ≡ false
   unfolding circular is_kept
-  not-circular-kept k = rw k
+  not-circular-kept k = simp k
 
   pub not-circular-closed : is_open os o ≡ false → circular s os o ≡ false
   unfolding circular
-  not-circular-closed closed = rw closed (and-false (Bool.not (is_kept (kept s o))))
+  not-circular-closed closed = simp (closed, and-false)
 
   pub circular-open : kept s o ≡ none → is_open os o ≡ true → circular s os o ≡ true
   unfolding circular is_kept
-  circular-open k among = rw (k, among)
+  circular-open k among = simp (k, among)
 
 pub depth-law : DepthLaw
 unfolding attr_app due due_part kept_or
