@@ -399,8 +399,8 @@ module _ (sheet store : List ℕ) (m : Registers) (a j : ℕ) (ready : FoundRead
   pub found-goes : (budget limit : ℕ) (mem : Memory) → m.steps < budget → m.steps < limit → (r : Registers) (v : Value) (w code : ℕ) → w ≡ value_word store j
       → code ≡ result_at sheet a → v ≡ of_word (base_of code) w → r ≡ answered m m.kept v
       → goes r mem ≡ within budget limit m (goes (answered m m.kept (of_word (base_of (result_at sheet a)) (value_word store j))) mem)
-  found-goes budget limit mem left before r v w code is_Is_word typed value by =
-      rw (by, value, typed, is_Is_word) (within-goes budget limit m _ left before)
+  found-goes budget limit mem left before r v w code is-word typed value by =
+      rw (by, value, typed, is-word) (within-goes budget limit m _ left before)
 
 -- what is answered keeps the number that it is given
 pub answer_keeps : (store links : List ℕ) (m r : Registers) (v : Value) (kept : ℕ) → r ≡ answered m kept v → Linked store kept links → Linked store r.kept links
@@ -438,5 +438,5 @@ module _ (sheet index store links run : List ℕ) (m : Registers) (w node a : �
       ≡ take_kept sheet index budget limit (memory_of store run) m node a (find_key store m.kept record { node = node; attribute = a; word = word })
       → stepped ≡ attribute_due sheet index budget limit (memory_of store run) m (node_of (value_in (held_node w))) (held_attribute w)
   unfolding attribute_due
-  due-taken budget limit word stepped is_Is_word taken =
-      rw (← due.node-is, ne_eqb node 65535 due.no_null) (rw (due.attribute-is, is_Is_word) at taken)
+  due-taken budget limit word stepped is-word taken =
+      rw (← due.node-is, ne_eqb node 65535 due.no_null) (rw (due.attribute-is, is-word) at taken)

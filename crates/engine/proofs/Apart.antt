@@ -6,6 +6,7 @@ use mathlib.Core.List.{List, [], ◌∷◌}
 use mathlib.Core.Path.{◌≡◌, refl, sym, ◌∙◌}
 use Prim.Native.Nat.{ℕ}
 use native.Mathlib.Omega.{arith}
+use borrow.Author.Rules.{rules}
 use lib.Dec.{ltb, eqb}
 use Rattle.saiga.specs.declared.Value.{Value}
 use Rattle.saiga.specs.declared.Applied.{Applied}
@@ -104,11 +105,11 @@ module _ (s : Sheet) (capacity budget : ℕ) (m : Machine) where
 
     defined-apart : (o : Occurrence) → kept m.entries o ≡ none → is_open (open_forms fs) o ≡ false → (d : Definition)
         → definition s o.node o.attribute ≡ d → Stays (defined s capacity budget m o fs d)
-    unfolding defined open_forms
+    unfolding defined open_forms is_open
     defined-apart o absent closed undefined e = apart-write s capacity m.entries (open_forms fs) o _ closed a
     defined-apart o absent closed (figure v) e = apart-write s capacity m.entries (open_forms fs) o v closed a
-    defined-apart o absent closed (piece_of p) e = (absent, closed, (λ v h. let z : ◌≡◌ {A = ℕ} 0 1 = cc in omega arith), a)
-    defined-apart o absent closed (forward_of p) e = (absent, closed, (λ v h. let z : ◌≡◌ {A = ℕ} 0 1 = cc in omega arith), a)
+    defined-apart o absent closed (piece_of p) e = (absent, search rules, (λ v h. let z : ◌≡◌ {A = ℕ} 0 1 = cc in omega arith), a)
+    defined-apart o absent closed (forward_of p) e = (absent, search rules, (λ v h. let z : ◌≡◌ {A = ℕ} 0 1 = cc in omega arith), a)
 
     applied-apart : (o : Occurrence) → circular m.entries (open_forms fs) o ≡ false → (k : Option Value) → kept m.entries o ≡ k
         → Stays (applied s capacity budget m o fs k)

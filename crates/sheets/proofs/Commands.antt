@@ -114,14 +114,14 @@ module _ (bytes : List ℕ) (p : Progress) (index : List ℕ) where
           unfolding scan_figure demand
           figure-word h = stopped (rw (le-leb _ _ early, le-leb _ _ long, ← node, lt-ltb _ _ declared-node, ← attribute, lt-ltb _ _ declared, ← word, ← typed, ← test, not-true t h))
 
-          module _ (is_Is_word : not t ≡ false) (place : ℕ) (here : place ≡ figure_place n a) where
+          module _ (is-word : not t ≡ false) (place : ℕ) (here : place ≡ figure_place n a) where
             pub figure-twice : (get_or index place 0 ≡ 0 → ⊥) → ReadAs (Stops 5 0) index index (scan_figure bytes p index)
             unfolding scan_figure demand
-            figure-twice h = stopped (rw (le-leb _ _ early, le-leb _ _ long, ← node, lt-ltb _ _ declared-node, ← attribute, lt-ltb _ _ declared, ← word, ← typed, ← test, not-false t is_Is_word, ← here, ne_eqb _ _ h))
+            figure-twice h = stopped (rw (le-leb _ _ early, le-leb _ _ long, ← node, lt-ltb _ _ declared-node, ← attribute, lt-ltb _ _ declared, ← word, ← typed, ← test, not-false t is-word, ← here, ne_eqb _ _ h))
 
             pub figure-goes-on : get_or index place 0 ≡ 0 → ReadAs (GoesOn record { at = p.at + 8; part = 2; attributes = p.attributes; nodes = p.nodes }) (set index place (p.at + 1)) index (scan_figure bytes p index)
             unfolding scan_figure demand
-            figure-goes-on h = went_on (rw (le-leb _ _ early, le-leb _ _ long, ← node, lt-ltb _ _ declared-node, ← attribute, lt-ltb _ _ declared, ← word, ← typed, ← test, not-false t is_Is_word, ← here, eq-eqb _ _ h))
+            figure-goes-on h = went_on (rw (le-leb _ _ early, le-leb _ _ long, ← node, lt-ltb _ _ declared-node, ← attribute, lt-ltb _ _ declared, ← word, ← typed, ← test, not-false t is-word, ← here, eq-eqb _ _ h))
 
 -- ---- A piece
 
