@@ -3,17 +3,11 @@
 set -euo pipefail
 cd "$(dirname "$0")/.."
 
-# Puts a file into a folder whole or not at all.
-put() {
-    mkdir -p "$2"
-    cp "$1" "$2/.new"
-    mv -f "$2/.new" "$2/$(basename "$1")"
-    echo "$2/$(basename "$1")"
-}
-
 (cd crates/sofretu && rt lib)
-put crates/sofretu/out/libsofretu.a target/staticlib
+install -D -m 644 crates/sofretu/out/libsofretu.a target/staticlib/libsofretu.a
 
-# `rt run` builds the program and runs it, here with no sheet and no question.
-(cd crates/report && rt run </dev/null 2>/dev/null)
-put crates/report/out/report target/bin
+# `rt run` builds the program and then runs it, here with no sheet and no question: its notices are of no interest, but what went wrong is.
+said=$(mktemp)
+trap 'rm -f "$said"' EXIT
+(cd crates/report && rt run </dev/null) 2>"$said" || { cat "$said" >&2 && exit 1; }
+install -D crates/report/out/report target/bin/report
