@@ -1,2 +1,2 @@
-pub mod CacheWriteCases
+pub mod Closing
 pub mod Opening

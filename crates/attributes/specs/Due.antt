@@ -1,6 +1,6 @@
 -- What AttrApp and CacheWrite rely on.
 use Rattle.std.specs.Prelude.{true, false, List, ◌≡◌, ℕ, suc, ◌+◌, ◌*◌, ◌-◌, ◌^◌, ◌≤◌, ◌<◌, length, get_or}
-use Rattle.std.proofs.Math.Option.{none, some}
+use Rattle.std.specs.Prelude.{None as none, Some as some}
 use Rattle.saiga.specs.Limits.{node_limit, entry_width, store_limit, depth_limit}
 use Rattle.saiga.specs.Values.{word_limit, base_of, is_word, to_word}
 use Rattle.values.specs.Layout.{result_at}

@@ -6,6 +6,7 @@ use native.Mathlib.Omega.{arith}
 use lib.ListN.{length, replicate}
 use Rattle.saiga.specs.Limits.{tally_rows}
 use Rattle.saiga.specs.declared.Value.TheVariants.{Unit as unit}
+use Rattle.saiga.specs.declared.stops.Stop.{Stop}
 use Rattle.saiga.specs.Caching.{Counted, Ending, Ended}
 use Rattle.saiga.specs.Tally.{tally}
 use Rattle.saiga.specs.Ask.{lent, asking, ended_answer, run_question, trace_question, ask}
@@ -22,10 +23,10 @@ use Rattle.engine.proofs.Loop.{question-short, invariant-start, final-outcome}
 use Rattle.engine.specs.Tallied.{RowsWithin, Tallied}
 use Rattle.engine.proofs.Tallying.{no_rows, tallied-start}
 use Rattle.runs.specs.declared.RunEnd.{RunEnd}
-use Rattle.runs.specs.declared.RunEnd.TheVariants as End
-use Rattle.runs.specs.Moves.{Running, kept_by, RunsTo, TalliesTo}
+use Rattle.engine.specs.declared.Halt.TheVariants as halt
+use Rattle.runs.specs.Moves.{Running, RunsTo, TalliesTo}
 use Rattle.calls.specs.declared.Answer.{Answer}
-use Rattle.calls.specs.declared.Answer.TheVariants.{Value, Refusal}
+use Rattle.calls.specs.declared.Answer.TheVariants.{Value, Refused}
 use Rattle.calls.specs.Answers.{answer_of}
 use Rattle.calls.specs.Askable.{Askable}
 
@@ -78,7 +79,7 @@ module _ {sheet index notes question store links memory : List ℕ} {kept budget
     module _ {store' links' : List ℕ} (memory' : List ℕ) (r : RunEnd)
         (ran : (lent : List ℕ) (kept : ℕ) (whole : Ended) → Invariant sheet index question budget lent kept whole (memory_of store memory) first
         → RunsTo sheet index notes question budget budget lent kept whole first.steps (memory_of store' memory') r)
-        (linked : Linked store' (kept_by r) links')
+        (linked : Linked store' r.registers.kept links')
         {rows : List ℕ} (rows' : List ℕ) (zeros : rows ≡ replicate tally_rows 0)
         (counted : (all : List Counted) → Tallied sheet question budget all rows (memory_of store memory) first
         → TalliesTo sheet question budget all (memory_of store' memory') rows' r) where
@@ -98,18 +99,18 @@ module _ {sheet index notes question store links memory : List ℕ} {kept budget
           let brings = ask-runs sheet (lent store kept) (asking question budget) a.accepts ∙ final-outcome final taken in
           (is-answer ∙ sym (ap (λ o. o.answer) brings), (rows_are ∙ sym (ap (λ o. o.tally) brings), (sym (ap (λ o. o.store) brings), index)))
 
-      pub finished : {m : Registers} → r ≡ End.Finishes m → Brings (Value m.value m.steps m.kept)
-      unfolding answer_of ended_answer kept_by
-      finished {m} end =
+      pub finished : r.halt ≡ halt.Finishes → Brings (Value r.registers.value r.registers.steps r.registers.kept)
+      unfolding answer_of ended_answer
+      finished end =
           let final = rw end at (ran store kept whole begins-at) in
-          ended (Value m.value m.steps m.kept) final (rw (final.ending_is, final.steps_are, final.kept_are)) (rw end at tallied) (rw end at linked)
+          ended (Value r.registers.value r.registers.steps r.registers.kept) final (rw (final.ending_is, final.steps_are, final.kept_are)) (rw end at tallied) linked
 
-      pub stopped : {number : ℕ} {m : Registers} → r ≡ End.Stops number m → Brings (Refusal number 0 m.steps m.kept)
-      unfolding answer_of ended_answer kept_by
-      stopped {number} {m} end =
+      pub stopped : {s : Stop} → r.halt ≡ halt.Stops s → Brings (Refused s 0 r.registers.steps r.registers.kept)
+      unfolding answer_of ended_answer
+      stopped {s} end =
           let (reason, is_number, final) = rw end at (ran store kept whole begins-at) in
-          ended (Refusal number 0 m.steps m.kept) final (rw (final.ending_is, is_number, final.steps_are, final.kept_are)) (rw end at tallied) (rw end at linked)
+          ended (Refused s 0 r.registers.steps r.registers.kept) final (rw (final.ending_is, is_number, final.steps_are, final.kept_are)) (rw end at tallied) linked
 
       -- A run whose limit is its budget does not pause: it is spent there, or it ends.
-      pub paused : {m : Registers} {A : Type 0} → r ≡ End.Pauses m → A
-      paused end = let pause = rw end at (ran store kept whole begins-at) in absurd (omega (arith, pause.reached, pause.left))
+      pub paused : r.halt ≡ halt.Waits → ⊥
+      paused end = let pause = rw end at (ran store kept whole begins-at) in omega (arith, pause.reached, pause.left)

@@ -4,26 +4,25 @@ use mathlib.Core.Path.{◌≡◌, refl, sym, ap, ◌∙◌}
 use Prim.Native.Nat.{ℕ}
 use native.Mathlib.Omega.{arith}
 use lib.ListN.{length, replicate}
+use Rattle.std.specs.Prelude.{Result, Ok, Err}
 use Rattle.saiga.specs.Limits.{tally_rows}
+use Rattle.saiga.specs.declared.Base.{Base}
+use Rattle.saiga.specs.declared.stops.Refusal.{Refusal}
 use Rattle.saiga.specs.Expressions.{Expr}
-use Rattle.saiga.specs.Sheet.{Sheet, Checked, refused◌at_place◌, accepted}
+use Rattle.saiga.specs.Sheet.{Checked, refused◌at_place◌, accepted}
 use Rattle.saiga.specs.Caching.{Entry}
 use Rattle.saiga.specs.Store.{check_store}
+use Rattle.saiga.specs.Stops.{stop_number}
 use Rattle.saiga.specs.Ask.{Lent, lent, Call, asking, refusal, ◌then_check◌, AcceptedCall, check_call, ask}
 use Rattle.saiga.specs.Calls.{leaves}
 use Rattle.saiga.proofs.Calls.{ask-refuses, passed, left-store-passes}
-use Rattle.expressions.specs.declared.QuestionCheck.{QuestionCheck}
-use Rattle.expressions.specs.declared.QuestionCheck.TheVariants as for-question
-use Rattle.expressions.specs.Forms.{question_of}
 use Rattle.stores.specs.Keys.{Linked}
 use Rattle.engine.specs.Decode.{run_size}
 use Rattle.calls.specs.declared.Answer.{Answer}
-use Rattle.calls.specs.declared.checks.Verdict.{Verdict}
-use Rattle.calls.specs.declared.checks.Verdict.TheVariants.{Refused, Accepted}
 use Rattle.calls.specs.Answers.{answer_of}
 use Rattle.calls.specs.Prepared.{NotedSheet, PreparedStore}
-use Rattle.calls.specs.Verdict.{SheetOf, from_budget, CallChecked}
-use Rattle.calls.proofs.CheckLaws.{SheetWith, sheet-of, same-sheet, verdict-refused, verdict-accepted, asked-refused, asked-accepted, from-store, from-sheet}
+use Rattle.calls.specs.Verdict.{from_budget, CallChecked}
+use Rattle.calls.proofs.CheckLaws.{check-refused, check-accepted, QuestionChecked, SheetWith, sheet-of, same-sheet, asked-refused, asked-accepted, with_question, from-store, from-sheet}
 use Rattle.calls.specs.Askable.{Askable, RunScratch}
 
 -- ---- A refusal
@@ -52,15 +51,16 @@ module _ {checked : Checked AcceptedCall} {memory : List ℕ} where
 
 -- ---- A call of which nothing was checked before
 
-module _ {sheet index notes question store links : List ℕ} {kept budget : ℕ} {r : Verdict}
+module _ {sheet index notes question store links : List ℕ} {kept budget : ℕ} {r : Result (Unit {0}) Refusal}
     (checked : CallChecked sheet (lent store kept) (asking question budget) index notes links r) where
-  pub checked_refused : {number place : ℕ} → r ≡ Refused number place → check_call sheet (lent store kept) (asking question budget) ≡ refused number at_place place
-  checked_refused is = verdict-refused (check_call sheet (lent store kept) (asking question budget)) (sym checked.answer ∙ is)
+  pub checked_refused : {q : Refusal} → r ≡ Err q
+      → check_call sheet (lent store kept) (asking question budget) ≡ refused stop_number q.stop at_place q.place
+  checked_refused = check-refused _ checked.answer
 
-  pub checked-accepts : r ≡ Accepted → (c : AcceptedCall) × (check_call sheet (lent store kept) (asking question budget) ≡ accepted c)
-  checked-accepts is = verdict-accepted (check_call sheet (lent store kept) (asking question budget)) (sym checked.answer ∙ is)
+  pub checked-accepts : r ≡ Ok tt → (c : AcceptedCall) × (check_call sheet (lent store kept) (asking question budget) ≡ accepted c)
+  checked-accepts is = let (c, (accepts, _)) = check-accepted _ checked.answer is in (c, accepts)
 
-  pub checked-askable : {memory : List ℕ} → r ≡ Accepted → length memory ≡ run_size
+  pub checked-askable : {memory : List ℕ} → r ≡ Ok tt → length memory ≡ run_size
       → Askable sheet index notes question store links memory kept budget
   checked-askable is memory_length =
       let (c, accepts) = checked-accepts is in
@@ -84,23 +84,23 @@ module _ {sheet index : List ℕ} {attributes nodes : ℕ} (p : SheetWith sheet 
   passes : check_store p.prepared.of store kept ≡ accepted entries
   passes = (q.passes p.prepared.of p.prepared.accepts).1
 
-  chain : check_call sheet (lent store kept) (asking question budget) ≡ (from_budget p.prepared.of (asking question budget) then_check λ e. accepted record { sheet = p.prepared.of; entries = entries; question = e })
+  chain : check_call sheet (lent store kept) (asking question budget) ≡ with_question p.prepared.of entries (from_budget p.prepared.of (asking question budget))
   chain = from-sheet sheet (lent store kept) (asking question budget) p.prepared.accepts ∙ from-store p.prepared.of (lent store kept) (asking question budget) passes
 
-  module _ {r : QuestionCheck}
-      (checked : (s : Sheet) → SheetOf sheet attributes nodes s → r ≡ question_of s.attributes (from_budget s (asking question budget))) where
-    pub question-refused : {number : ℕ} → r ≡ for-question.Refused number → check_call sheet (lent store kept) (asking question budget) ≡ refused number at_place 0
+  module _ {r : Result Base Refusal} (checked : QuestionChecked sheet attributes nodes (asking question budget) r) where
+    pub question-refused : {q : Refusal} → r ≡ Err q
+        → check_call sheet (lent store kept) (asking question budget) ≡ refused stop_number q.stop at_place q.place
     unfolding ◌then_check◌
     question-refused is = chain ∙ rw (asked-refused (asking question budget) checked p.prepared.of (sheet-of p) is)
 
-    pub question-accepts : {code : ℕ} → r ≡ for-question.Accepted code
+    pub question-accepts : {b : Base} → r ≡ Ok b
         → (e : Expr) × (check_call sheet (lent store kept) (asking question budget) ≡ accepted record { sheet = p.prepared.of; entries = entries; question = e })
     unfolding ◌then_check◌
     question-accepts is =
         let (e, asks) = asked-accepted (asking question budget) checked p.prepared.of (sheet-of p) is in
         (e, chain ∙ rw asks)
 
-    pub askable : {notes memory : List ℕ} {code : ℕ} → NotedSheet sheet index notes → r ≡ for-question.Accepted code → length memory ≡ run_size
+    pub askable : {notes memory : List ℕ} {b : Base} → NotedSheet sheet index notes → r ≡ Ok b → length memory ≡ run_size
         → Askable sheet index notes question store links memory kept budget
     askable noted is memory_length =
         let (e, accepts) = question-accepts is in

@@ -1,24 +1,23 @@
 -- What the code answers of a call's arguments, and what it leaves in the two indexes and in the notes (document 01, "Stops by origin").
-use Rattle.std.specs.Prelude.{List, ◌≡◌, ℕ, length}
+use Rattle.std.specs.Prelude.{List, ◌≡◌, ℕ, length, Result}
 use Rattle.saiga.specs.Limits.{sheet_limit}
 use Rattle.saiga.specs.Expressions.{Expr}
-use Rattle.saiga.specs.Sheet.{Sheet, node_count, Checked, refused◌at_place◌, accepted, check_sheet}
+use Rattle.saiga.specs.Sheet.{Sheet, node_count, Checked, accepted, check_sheet}
 use Rattle.saiga.specs.Caching.{Entry}
 use Rattle.saiga.specs.Store.{check_store}
+use Rattle.saiga.specs.Stops.{checked_of, says}
+use Rattle.saiga.specs.declared.stops.Refusal.{Refusal}
 use Rattle.saiga.specs.Ask.{Lent, Call, ◌then_check◌, check_budget, check_question, AcceptedCall, check_call}
 use Rattle.values.specs.Layout.{attributes_in}
 use Rattle.sheets.specs.Scan.{index_size, Indexed}
 use Rattle.stores.specs.Keys.{links_size, Linked}
 use Rattle.calls.specs.Prepared.{NotedSheet}
-use Rattle.calls.specs.declared.checks.Verdict.{Verdict}
-use Rattle.calls.specs.declared.checks.Verdict.TheVariants.{Refused, Accepted}
 
 -- the first stop with its place, or that there is none
-unfoldable pub verdict_of : Checked AcceptedCall → Verdict
-verdict_of (refused number at_place place) = Refused number place
-verdict_of (accepted c) = Accepted
+abbrev pub verdict_of : Checked AcceptedCall → Checked (Unit {0})
+verdict_of = says (λ _. tt)
 
--- ---- The last links of the chain `check_call`, each for every sheet of these attributes and nodes
+-- ---- The last links of the chain `check_call`, for every sheet of these attributes and nodes
 
 -- A sheet of these attributes and nodes, whose types stand in these bytes.
 pub record SheetOf (types : List ℕ) (attributes nodes : ℕ) (s : Sheet) : Type 0 where
@@ -28,20 +27,6 @@ pub record SheetOf (types : List ℕ) (attributes nodes : ℕ) (s : Sheet) : Typ
 -- stops 11 to 13
 abbrev pub from_budget : Sheet → Call → Checked Expr
 from_budget s c = check_budget c.budget then_check λ _. check_question s c.question
-
--- stops 9 to 13
-abbrev pub from_store : Sheet → Lent → Call → Checked AcceptedCall
-from_store s m c =
-    check_store s m.store m.kept then_check λ entries.
-    check_budget c.budget then_check λ _.
-    check_question s c.question then_check λ e.
-    accepted record { sheet = s; entries = entries; question = e }
-
-pub record FromStore (types : List ℕ) (attributes nodes : ℕ) (m : Lent) (c : Call) (links : List ℕ) (r : Verdict) : Type 0 where
-  pub answer : (s : Sheet) → SheetOf types attributes nodes s → r ≡ verdict_of (from_store s m c)
-  pub links_length : length links ≡ links_size
-  pub linked : (s : Sheet) → SheetOf types attributes nodes s → (entries : List Entry) → check_store s m.store m.kept ≡ accepted entries
-      → Linked m.store m.kept links
 
 -- ---- The check of a call
 
@@ -55,6 +40,6 @@ pub record Indexes (sheet store : List ℕ) (kept : ℕ) (index notes links : Li
   pub links_length : length links ≡ links_size
   pub linked : (s : Sheet) → check_sheet sheet ≡ accepted s → (entries : List Entry) → check_store s store kept ≡ accepted entries → Linked store kept links
 
-pub record CallChecked (sheet : List ℕ) (m : Lent) (c : Call) (index notes links : List ℕ) (r : Verdict) : Type 0 where
-  pub answer : r ≡ verdict_of (check_call sheet m c)
+pub record CallChecked (sheet : List ℕ) (m : Lent) (c : Call) (index notes links : List ℕ) (r : Result (Unit {0}) Refusal) : Type 0 where
+  pub answer : checked_of r ≡ verdict_of (check_call sheet m c)
   pub scratch : Indexes sheet m.store m.kept index notes links

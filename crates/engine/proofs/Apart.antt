@@ -1,16 +1,14 @@
 -- Every move keeps the open forms apart: a form opens where its occurrence is neither open nor kept, and what is kept then is of an occurrence that is
 -- not open.
 use mathlib.Core.Bool.{Bool, true, false, ◌||◌, false≢true}
-use mathlib.Core.Option.{Option, none, some}
+use Rattle.std.specs.Prelude.{Option, None as none, Some as some}
 use mathlib.Core.List.{List, [], ◌∷◌}
 use mathlib.Core.Path.{◌≡◌, refl, sym, ◌∙◌}
 use Prim.Native.Nat.{ℕ}
-use native.Mathlib.Omega.{arith}
 use borrow.Author.Rules.{rules}
 use lib.Dec.{ltb, eqb}
+use Rattle.std.proofs.lemmas.Bool.{or_parts}
 use Rattle.saiga.specs.declared.Value.{Value}
-use Rattle.saiga.specs.declared.Applied.{Applied}
-use Rattle.saiga.specs.declared.Applied.TheVariants.{Gives as gives, Overflow as overflows}
 use Rattle.saiga.specs.Values.{null, truth, node_of, apply}
 use Rattle.saiga.specs.Expressions.{Head, base_literal, function_literal, if_head, application_head, attribute_head, this_head, parameter_head, no_head, head_of}
 use Rattle.saiga.specs.Sheet.{Sheet, Definition, undefined, figure, piece_of, forward_of, definition}
@@ -23,10 +21,6 @@ use Rattle.engine.specs.Good.{Apart}
 use Rattle.engine.proofs.Bounds.{Onward, cond-onward}
 
 -- ---- What is kept while forms are open
-
-neither : (a b : Bool) → (a || b) ≡ false → (a ≡ false) × (b ≡ false)
-neither true b e = absurd (false≢true (sym e))
-neither false b e = (refl, e)
 
 -- the test of two occurrences, the other way round
 other_way : (p o : Occurrence) → same_occurrence p o ≡ false → same_occurrence o p ≡ false
@@ -42,7 +36,7 @@ apart-write : (sheet : Sheet) (C : ℕ) (s : List Entry) (os : List Occurrence) 
 unfolding is_open
 apart-write sheet C s [] o v closed a = tt
 apart-write sheet C s (p ∷ os) o v closed (absent, different, unfigured, rest) =
-    let (other, below) = neither (same_occurrence p o) (is_open os o) closed in (
+    let (other, below) = or_parts (same_occurrence p o) (is_open os o) closed in (
       write-other C s record { occurrence = o; value = v } p (other_way p o other) ∙ absent,
       different,
       unfigured,
@@ -98,18 +92,18 @@ module _ (s : Sheet) (capacity budget : ℕ) (m : Machine) where
     branch-apart true = within-apart _ _ a
     branch-apart false = within-apart _ _ a
 
-    application-apart : (r : Applied) → Onward Stays (application_due s capacity budget m fs r)
+    application-apart : (r : Option Value) → Onward Stays (application_due s capacity budget m fs r)
     unfolding application_due
-    application-apart (gives v) = within-apart _ _ a
-    application-apart overflows = tt
+    application-apart (some v) = within-apart _ _ a
+    application-apart none = tt
 
     defined-apart : (o : Occurrence) → kept m.entries o ≡ none → is_open (open_forms fs) o ≡ false → (d : Definition)
         → definition s o.node o.attribute ≡ d → Stays (defined s capacity budget m o fs d)
     unfolding defined open_forms is_open
     defined-apart o absent closed undefined e = apart-write s capacity m.entries (open_forms fs) o _ closed a
     defined-apart o absent closed (figure v) e = apart-write s capacity m.entries (open_forms fs) o v closed a
-    defined-apart o absent closed (piece_of p) e = (absent, search rules, (λ v h. let z : ◌≡◌ {A = ℕ} 0 1 = cc in omega arith), a)
-    defined-apart o absent closed (forward_of p) e = (absent, search rules, (λ v h. let z : ◌≡◌ {A = ℕ} 0 1 = cc in omega arith), a)
+    defined-apart o absent closed (piece_of p) e = (absent, search rules, (λ v h. cc), a)
+    defined-apart o absent closed (forward_of p) e = (absent, search rules, (λ v h. cc), a)
 
     applied-apart : (o : Occurrence) → circular m.entries (open_forms fs) o ≡ false → (k : Option Value) → kept m.entries o ≡ k
         → Stays (applied s capacity budget m o fs k)

@@ -1,7 +1,7 @@
 -- AttrApp and CacheWrite on registers and memory are moves of the machine.
 use mathlib.Core.Bool.{Bool, true, false}
-use mathlib.Core.Bool as Bool
-use mathlib.Core.Option.{Option, none, some, none-ne-some}
+use Rattle.std.specs.Prelude.{Option, None as none, Some as some}
+use Rattle.std.proofs.lemmas.Option.{none-some}
 use mathlib.Core.List.{List, ◌∷◌}
 use mathlib.Core.Logic.{◌⊎◌, inl, inr}
 use mathlib.Core.Path.{◌≡◌, refl, sym, ◌∙◌, ap}
@@ -12,8 +12,10 @@ use native.Mathlib.Numerals.{add-one}
 use lib.Dec.{eqb, eqb-suc-zero, lit<}
 use lib.ListN.{length, take, drop, get_or, set, length-set}
 use lib.Seq.{get_or-set_same, get_or-set_other}
-use borrow.Author.Tests.{lt-ltb, le-ltb, eq-eqb}
-use Rattle.saiga.specs.Values.{node_t, base, null, node_of, base_of, of_bytes, of_word, to_word}
+use borrow.Author.Tests.{lt-ltb, le-ltb}
+use Rattle.std.proofs.lemmas.Grind.{common_steps}
+use Rattle.saiga.specs.Values.{base, null, node_of, base_of, of_bytes, of_word, to_word}
+use Rattle.saiga.specs.declared.Base.TheVariants.{Node as node_t}
 use Rattle.saiga.specs.declared.Value.{Value}
 use Rattle.saiga.specs.Types.{attribute_at}
 use Rattle.saiga.specs.Sheet.{Sheet, node_count, attribute_count, Definition, figure, piece_of, forward_of, forwarded, ruled, figured, definition, accepted}
@@ -29,21 +31,21 @@ use Rattle.saiga.proofs.Preservation.{declared, either}
 use Rattle.sheets.specs.Scan.{figure_place, figure_at, piece_at, indexed, rule_number, forward_number, IndexedPair, PieceHere}
 use Rattle.sheets.proofs.Indexed.{attribute-by-index, definition-by-index}
 use Rattle.sheets.proofs.Lookups.{rule-here, forward-here, piece-there}
-use Rattle.values.proofs.Declared.{attribute_in}
+use Rattle.values.proofs.Attributes.{attribute_in}
 use Rattle.stores.specs.Keys.{find_key, fields_for}
 use Rattle.engine.specs.RunningPiece.{piece_in, rest_of}
 use Rattle.values.specs.Packed.{value_in}
 use Rattle.engine.specs.Machine.{Frame, on_parameter, on_forward, on_form, evaluating, returning, Machine, open_forms, plug, term_of, state_of, moves, takes, counted, defined, applied, give, move_of, move}
 use Rattle.engine.specs.Machine as Machine
 use Rattle.engine.specs.FrameWords.{kind_of, parameter_kind, form_kind, held_attribute, held_node, forward_word}
-use Rattle.engine.specs.Decode.{sheet_of, entries_of, plain_frame, form_occurrence, form_rest, frames_in, mode_of, machine_of, Placed}
+use Rattle.engine.specs.Decode.{sheet_of, entries_of, form_occurrence, form_rest, frames_in, mode_of, machine_of, Placed}
 use Rattle.engine.specs.Steps.{Memory, Stepped, goes, answered, cache_write, close_form, forwarding, open_piece, open_rule, open_figure, take_kept, attribute_due}
 use Rattle.engine.specs.OpenKeys.{form_key, key_open}
 use Rattle.engine.specs.declared.Registers.{Registers}
 use Rattle.engine.proofs.Bounds.{represents-sized, frames-fit}
 use Rattle.engine.specs.Machine.{Next, by_move, by_step}
 use Rattle.engine.specs.Represents.{machine_in, Represents, Matches}
-use Rattle.engine.proofs.Decoding.{parameter-kind, forward-word, pushed-frame, top_frame, frames-count}
+use Rattle.engine.proofs.Decoding.{parameter-kind, forward-word, pushed-frame, top_frame, top-form, frames-count}
 use Rattle.engine.proofs.StoreWritten.{key_of, ByKey, Written, cache-write}
 use Rattle.engine.proofs.Apart.{figure_closed}
 use Rattle.engine.proofs.Limited.{within-holds, missing-holds}
@@ -66,15 +68,6 @@ module _ (sheet question forms forms' : List ℕ) (k : ℕ) (same : (i : ℕ) �
       }
 
 module _ (sheet question words forms : List ℕ) where
-  -- the innermost of some frames
-  innermost-frame : (n k : ℕ) → 0 < n → frames_in sheet question words forms n k
-      ≡ Bool.cond (eqb (kind_of (get_or words (n - 1) 0)) form_kind)
-      (on_form (form_occurrence sheet forms (k - 1)) (form_rest sheet question forms (k - 1)) ∷ frames_in sheet question words forms (n - 1) (k - 1))
-      (plain_frame (get_or words (n - 1) 0) ∷ frames_in sheet question words forms (n - 1) k)
-  unfolding frames_in
-  innermost-frame zero k h = absurd (omega arith)
-  innermost-frame (suc n) k h = let e : suc n - 1 ≡ n = omega arith in rw e
-
   -- Frames are read from their words and from the forms that are open.
   frames-same : (words' forms' : List ℕ) (n k : ℕ) → length (open_forms (frames_in sheet question words forms n k)) ≡ k
       → ((i : ℕ) → i < n → get_or words' i 0 ≡ get_or words i 0) → ((i : ℕ) → i < 4 * k → get_or forms' i 0 ≡ get_or forms i 0)
@@ -103,27 +96,19 @@ module _ (forms : List ℕ) (f a b c d : ℕ) (fits : f + 4 ≤ length forms) wh
   four = set_four forms f a b c d
 
   pub four-older : (i : ℕ) → i < f → get_or four i 0 ≡ get_or forms i 0
-  four-older i h =
-      rw (get_or-set_other _ (f + 3) i d 0 (omega arith), get_or-set_other _ (f + 2) i c 0 (omega arith), get_or-set_other _ (f + 1) i b 0 (omega arith))
-      (get_or-set_other forms f i a 0 (omega arith))
+  four-older i h = grind (arith, common_steps)
 
   pub four-first : get_or four f 0 ≡ a
-  four-first =
-      rw (get_or-set_other _ (f + 3) f d 0 (omega arith), get_or-set_other _ (f + 2) f c 0 (omega arith), get_or-set_other _ (f + 1) f b 0 (omega arith))
-      (get_or-set_same forms f a 0 (omega arith))
+  four-first = grind (arith, common_steps)
 
   pub four-second : get_or four (f + 1) 0 ≡ b
-  four-second =
-      rw (get_or-set_other _ (f + 3) (f + 1) d 0 (omega arith), get_or-set_other _ (f + 2) (f + 1) c 0 (omega arith))
-      (get_or-set_same (set forms f a) (f + 1) b 0 (simp length-set (omega arith)))
+  four-second = grind (arith, common_steps)
 
   pub four-third : get_or four (f + 2) 0 ≡ c
-  four-third =
-      rw (get_or-set_other _ (f + 3) (f + 2) d 0 (omega arith))
-      (get_or-set_same (set (set forms f a) (f + 1) b) (f + 2) c 0 (simp length-set (omega arith)))
+  four-third = grind (arith, common_steps)
 
   pub four-last : get_or four (f + 3) 0 ≡ d
-  four-last = get_or-set_same (set (set (set forms f a) (f + 1) b) (f + 2) c) (f + 3) d 0 (simp length-set (omega arith))
+  four-last = grind (arith, common_steps)
 
 -- One more form, in the place of the innermost of n frames.
 module _ (sheet question words forms : List ℕ) (n k node a w from to : ℕ) (small : a < 32) (fits : 4 * k + 4 ≤ length forms) where
@@ -149,9 +134,8 @@ module _ (sheet question words forms : List ℕ) (n k node a w from to : ℕ) (s
       ≡ on_form occurrence (rest_of sheet question k from to) ∷ frames_in sheet question words forms (n - 1) k
   opened-frames framed inside counted =
       let below : k + 1 - 1 ≡ k = omega arith in
-      innermost-frame sheet question (set words (n - 1) 6) opened n (k + 1) framed
+      top-form sheet question opened (set words (n - 1) 6) n (k + 1) framed (rw (get_or-set_same words (n - 1) 6 0 (omega arith)))
       ∙ rw (
-        get_or-set_same words (n - 1) 6 0 (omega arith),
         below,
         opened-occurrence,
         opened-rest,
@@ -229,7 +213,7 @@ module _ {sheet index question : List ℕ} {mem : Memory} {m : Registers} (r : R
     o = form_occurrence sheet mem.forms k
 
     form-frames : frames_in sheet question mem.words mem.forms m.frames m.forms ≡ on_form o (form_rest sheet question mem.forms k) ∷ below k
-    form-frames = innermost-frame sheet question mem.words mem.forms m.frames m.forms framed ∙ rw (eq-eqb (kind_of word) form_kind is-form)
+    form-frames = top-form sheet question mem.forms mem.words m.frames m.forms framed is-form
 
     pub form-counted : suc (length (open_forms (below k))) ≡ m.forms
     unfolding open_forms
@@ -262,7 +246,7 @@ module _ {sheet index question : List ℕ} {mem : Memory} {m : Registers} (r : R
         go none e absent = rw form-key at e
         go (some j) e absent =
             let found = (by_key _ _ _ r.holds.stored).found o j form-typed.0 e in
-            absurd (none-ne-some _ (sym absent ∙ found))
+            absurd (none-some _ (sym absent ∙ found))
 
     -- with what CacheWrite leaves
     closes : (capacity budget limit : ℕ) → length mem.store / 12 ≡ capacity → (w : List ℕ × ℕ)

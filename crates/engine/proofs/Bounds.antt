@@ -1,7 +1,7 @@
 -- The machine ends, and stays small: its frames fit into an array of 8,320.
 use mathlib.Core.Bool.{Bool, true, false, ◌&&◌}
 use mathlib.Core.Bool as Bool
-use mathlib.Core.Option.{Option, none, some}
+use Rattle.std.specs.Prelude.{Option, None as none, Some as some}
 use mathlib.Core.List.{List, [], ◌∷◌}
 use mathlib.Core.Path.{◌≡◌, refl, ap}
 use Prim.Native.Nat.{ℕ, ◌+◌, ◌*◌, ◌-◌, ◌≤◌, ◌<◌}
@@ -11,10 +11,8 @@ use lib.ListN.{length, drop, length-drop}
 use borrow.Author.Tests.{leb-true, leb-false, ltb-true}
 use Rattle.saiga.specs.Limits.{depth_limit}
 use Rattle.saiga.specs.declared.Value.{Value}
-use Rattle.saiga.specs.declared.Applied.{Applied}
-use Rattle.saiga.specs.declared.Applied.TheVariants.{Gives as gives, Overflow as overflows}
 use Rattle.saiga.specs.Values.{null, truth, node_of, apply}
-use Rattle.saiga.specs.Expressions.{Expr, Scope, Head, base_literal, function_literal, if_head, application_head, attribute_head, this_head, parameter_head, no_head, head_of, operand_width, read_expr, no_expression, expression, read_whole}
+use Rattle.saiga.specs.Expressions.{Expr, Scope, Head, base_literal, function_literal, if_head, application_head, attribute_head, this_head, parameter_head, no_head, head_of, operand_width, read_expr, expression, read_whole}
 use Rattle.saiga.specs.Sheet.{Sheet, rule_scope, Definition, undefined, figure, piece_of, forward_of, definition}
 use Rattle.saiga.specs.Terms.{Occurrence}
 use Rattle.saiga.specs.Caching.{Entry, is_kept, Counted, circular, too_deep}
@@ -26,7 +24,7 @@ use Rattle.engine.specs.Decode.{frame_limit, sheet_of, machine_of}
 use Rattle.engine.specs.Steps.{Memory}
 use Rattle.engine.specs.Represents.{machine_in, Represents}
 use Rattle.engine.specs.declared.Registers.{Registers}
-use Rattle.engine.proofs.Heads.{head-inside}
+use Rattle.engine.proofs.Heads.{head-inside, none_inside}
 use Rattle.engine.specs.Cost.{Moves, at_first, and_then, credit, credits, mode_credit, measure}
 
 -- ---- What every move keeps
@@ -75,12 +73,9 @@ pass-shorter : (sc : Scope) (l : List ℕ) → length (pass_over sc l) ≤ lengt
 unfolding pass_over
 pass-shorter sc l = drop-shorter (width_of (read_expr sc (length l) l)) l
 
-whole-short : (sc : Scope) (l : List ℕ) (e : Expr) → read_whole sc l ≡ expression e → length l ≤ 256
+pub whole-short : (sc : Scope) (l : List ℕ) (e : Expr) → read_whole sc l ≡ expression e → length l ≤ 256
 unfolding read_whole
-whole-short sc l e h = leb-true (length l) 256 (cond-passes (leb (length l) 256) h no).0
-  where
-    no : no_expression ≡ expression e → ⊥
-    no h = let z : ◌≡◌ {A = ℕ} 0 1 = cc in omega arith
+whole-short sc l e h = leb-true (length l) 256 (cond-passes (leb (length l) 256) h (λ h. cc)).0
 
 -- An expression has a byte at least.
 pass-less : {sc : Scope} {l : List ℕ} → Parses sc l → length (pass_over sc l) < length l
@@ -88,10 +83,6 @@ unfolding pass_over width_of
 pass-less {sc} {l} p =
     let is : length (pass_over sc l) ≡ length (drop p.width l) = rw p.read in
     omega (arith, length-drop p.width l, read-width sc (length l) l p.expr p.width p.read)
-
-nothing-parses : (sc : Scope) → Parses sc [] → ⊥
-unfolding read_expr
-nothing-parses sc p = let r = p.read in let z : ◌≡◌ {A = ℕ} 0 1 = cc in omega arith
 
 -- nothing of a form's piece is used where its frame is the innermost
 used-none : {fs : List Frame} → OnForm fs → used fs ≡ 0
@@ -139,11 +130,11 @@ module _ (s : Sheet) (capacity budget : ℕ) (entries : List Entry) (steps : ℕ
   branch-on v l fs false =
       within_on v l (on_if ∷ fs) _ _ λ b. within-piece (omega (arith, pass-shorter (scope_in s (open_forms fs)) l)) (λ w. w)
 
-  application-on : (v : Value) (l : List ℕ) (f : Value) (fs : List Frame) (a : Applied)
+  application-on : (v : Value) (l : List ℕ) (f : Value) (fs : List Frame) (a : Option Value)
       → Onward (Keeps s budget (state (returning v) l (on_right f ∷ fs))) (application_due s capacity budget (state (returning v) l (on_right f ∷ fs)) fs a)
   unfolding application_due credits credit mode_credit open_forms
-  application-on v l f fs (gives w) = within_on v l (on_right f ∷ fs) _ _ λ b. within-piece (omega arith) (λ w. w)
-  application-on v l f fs overflows = tt
+  application-on v l f fs (some w) = within_on v l (on_right f ∷ fs) _ _ λ b. within-piece (omega arith) (λ w. w)
+  application-on v l f fs none = tt
 
   -- a value at once, or a piece
   module _ (v n : Value) (a : ℕ) (l : List ℕ) (fs : List Frame) (b : steps < budget) where
@@ -206,7 +197,7 @@ module _ (s : Sheet) (capacity budget : ℕ) (entries : List Entry) (steps : ℕ
   move-on : (mode : Mode) (l : List ℕ) (fs : List Frame) → Onward (Keeps s budget (state mode l fs)) (move s capacity budget (state mode l fs))
   unfolding move move_of read_next mode_credit
   move-on evaluating [] fs =
-      record { cost = omega arith; small = λ p g. absurd (nothing-parses (scope_in s (open_forms fs)) g.0); forms = λ n. n; fit = omega arith }
+      record { cost = omega arith; small = λ p g. none_inside g.0; forms = λ n. n; fit = omega arith }
   move-on evaluating (c ∷ l) fs = reads_on c l fs (head_of c) refl
   move-on (returning v) l fs = give-on v l fs
 

@@ -1,14 +1,14 @@
 -- Laws of the machine that registers and memory hold: its frames by their words, the innermost form, and the rest of the running piece.
-use mathlib.Core.Bool.{false, cond}
+use mathlib.Core.Bool.{false}
 use mathlib.Core.List.{List, [], ◌∷◌}
 use mathlib.Core.Path.{◌≡◌, refl, ap, ◌∙◌}
 use Prim.Native.Nat.{ℕ, zero, suc, ◌+◌, ◌-◌, ◌≤◌, ◌<◌}
-use native.Mathlib.Nat.{add-zero, zero-sub, sub-zero, suc-sub-suc}
+use native.Mathlib.Nat.{zero-sub, sub-zero, suc-sub-suc}
 use native.Mathlib.Numerals.{add-one, one-add}
 use native.Mathlib.Omega.{arith}
 use lib.Dec.{eqb}
 use lib.ListN.{length, take, drop, get_or, set, length-take, length-drop}
-use lib.Seq.{take-nil, drop-drop, get_or-drop, get_or-set_same, get_or-set_other}
+use lib.Seq.{take-nil, drop-drop, get_or-set_same, get_or-set_other}
 use Rattle.saiga.specs.declared.Value.{Value}
 use Rattle.saiga.proofs.Preservation.{either}
 use Rattle.engine.specs.RunningPiece.{piece_in, rest_of}
@@ -17,6 +17,7 @@ use Rattle.engine.specs.Machine.{Frame, on_if, on_left, on_skip, on_right, on_no
 use Rattle.engine.specs.FrameWords.{kind_of, if_kind, left_kind, skip_kind, right_kind, node_kind, parameter_kind, form_kind, right_word, held_function, node_word, held_attribute, parameter_word, held_node, forward_kind, forward_word}
 use Rattle.engine.specs.Decode.{plain_frame, form_occurrence, form_rest, frames_in}
 use Rattle.engine.specs.Represents.{Packs}
+use Rattle.engine.proofs.OpenForms.{plain-open}
 
 -- ---- Words of plain frames
 
@@ -83,26 +84,6 @@ forward-word {a} h = rw holds at (forward-kind (forward_word a) (omega arith))
     holds : held_attribute (forward_word a) ≡ a
     holds = omega arith
 
--- such a frame opens no form
-record OpensNone (f : Frame) : Type 0 where
-  open-forms : (fs : List Frame) → open_forms (f ∷ fs) ≡ open_forms fs
-
-plain-open : (w : ℕ) → OpensNone (plain_frame w)
-unfolding plain_frame open_forms
-plain-open w =
-    or_else 0 (none (λ fs. refl))
-    (or_else 1 (none (λ fs. refl))
-    (or_else 2 (none (λ fs. refl))
-    (or_else 3 (none (λ fs. refl))
-    (or_else 4 (none (λ fs. refl))
-    (or_else 5 (none (λ fs. refl)) (none (λ fs. refl)))))))
-  where
-    none : {f : Frame} → ((fs : List Frame) → open_forms (f ∷ fs) ≡ open_forms fs) → OpensNone f
-    none h = record { open-forms = h }
-
-    or_else : (j : ℕ) {f g : Frame} → OpensNone f → OpensNone g → OpensNone (cond (eqb (kind_of w) j) f g)
-    or_else j p q = either OpensNone (eqb (kind_of w) j) (λ e. p) (λ e. q)
-
 -- ---- Frames
 
 module _ (sheet question forms : List ℕ) where
@@ -157,20 +138,26 @@ module _ (sheet question forms : List ℕ) where
   innermost-form words (suc n) k =
       either (λ fs. 0 < length (open_forms fs) → innermost (open_forms fs) ≡ form_occurrence sheet forms (k - 1)) (eqb (kind_of (get_or words n 0)) form_kind)
       (λ e h. refl)
-      (λ e h. let same = (plain-open (get_or words n 0)).open-forms (frames_of words n k) in rw same (innermost-form words n k (rw same at h)))
+      (λ e h. let same = plain-open (get_or words n 0) (frames_of words n k) in rw same (innermost-form words n k (rw same at h)))
 
 -- ---- The rest of the running piece
-
-take-first : (n : ℕ) (l : List ℕ) {c : ℕ} {r : List ℕ} → take n l ≡ c ∷ r → get_or l 0 0 ≡ c
-take-first zero l e = cc
-take-first (suc n) [] e = cc
-take-first (suc n) (x ∷ l) e = cc
 
 drop-take : (w n : ℕ) (l : List ℕ) → drop w (take n l) ≡ take (n - w) (drop w l)
 drop-take zero n l = rw sub-zero
 drop-take (suc w) zero l = rw zero-sub
 drop-take (suc w) (suc n) [] = rw take-nil
 drop-take (suc w) (suc n) (x ∷ l) = rw suc-sub-suc (drop-take w n l)
+
+pub piece-outside : (sheet question : List ℕ) (k : ℕ) → k ≡ 0 → piece_in sheet question k ≡ question
+unfolding piece_in
+piece-outside sheet question k is = rw is
+
+pub piece-inside : (sheet question : List ℕ) (k : ℕ) → (k ≡ 0 → ⊥) → piece_in sheet question k ≡ sheet
+unfolding piece_in
+piece-inside sheet question zero h = absurd (h refl)
+piece-inside sheet question (suc k) h = refl
+
+pub ruleset piece_laws = (piece-outside, piece-inside)
 
 module _ (sheet question : List ℕ) (k at end : ℕ) where
   abbrev rest : ℕ → List ℕ
@@ -187,13 +174,9 @@ module _ (sheet question : List ℕ) (k at end : ℕ) where
   rest-length h = omega (arith, length-take (end - at) (drop at (piece_in sheet question k)), length-drop at (piece_in sheet question k))
 
   module _ {c : ℕ} {l : List ℕ} (e : rest at ≡ c ∷ l) where
-    -- it reaches to the end, and its first byte is the piece's
+    -- it reaches to the end
     pub rest-inside : end ≤ length (piece_in sheet question k) → at + suc (length l) ≡ end
     rest-inside h = omega (arith, rest-length h, ap length e)
-
-    pub rest-first : get_or (piece_in sheet question k) at 0 ≡ c
-    unfolding rest_of
-    rest-first = rw (get_or-drop, add-zero) at (take-first (end - at) (drop at (piece_in sheet question k)) e)
 
     -- what stands behind it
     pub rest-behind : (w : ℕ) → rest (at + (1 + w)) ≡ drop w l

@@ -61,12 +61,15 @@ Inside sc l parameter_head e r = (e ≡ parameter) × (r ≡ l)
 Inside sc l no_head e r = ⊥
 
 never : {A : Type 0} {e : Expr} {w : ℕ} → malformed ≡ reads e w → A
-never h = let z : ◌≡◌ {A = ℕ} 0 1 = cc in absurd (omega arith)
+never h = cc
+
+pub tested : (b : Bool) {r : Reading} {e : Expr} {w : ℕ} → whenever b r ≡ reads e w → (b ≡ true) × (r ≡ reads e w)
+unfolding whenever
+tested true h = (refl, h)
+tested false h = never h
 
 passes : (b : Bool) {r : Reading} {e : Expr} {w : ℕ} → whenever b r ≡ reads e w → r ≡ reads e w
-unfolding whenever
-passes true h = h
-passes false h = never h
+passes b h = (tested b h).1
 
 follow : {A : Type 0} (r : Reading) (f : Expr → ℕ → Reading) {e : Expr} {w : ℕ} → (r followed_by f) ≡ reads e w
     → ((x : Expr) (m : ℕ) → r ≡ reads x m → f x m ≡ reads e w → A) → A

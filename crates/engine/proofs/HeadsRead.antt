@@ -5,22 +5,22 @@ use mathlib.Core.Path.{◌≡◌, refl, sym, ap, ◌∙◌}
 use Prim.Native.Nat.{ℕ, ◌+◌, ◌*◌, ◌≤◌, ◌<◌}
 use native.Mathlib.Omega.{arith}
 use lib.Dec.{eqb}
-use lib.ListN.{length, take, drop, get_or, set}
+use lib.ListN.{length, take, drop, get_or}
 use lib.Seq.{get_or-drop}
 use borrow.Author.Tests.{ne_eqb}
-use Rattle.saiga.specs.Values.{unit_t, bool_t, int_t, node_t, function_of, of_bytes, signed, of_word}
+use Rattle.saiga.specs.Values.{function_of, of_bytes, signed, of_word}
+use Rattle.saiga.specs.declared.Base.TheVariants.{Unit as unit_t, Bool as bool_t, Int as int_t, Node as node_t}
 use Rattle.saiga.specs.declared.Value.TheVariants.{Unit as unit, Bool as bool, Int as int, Node as node, Function as function}
 use Rattle.saiga.specs.Expressions.{Head, base_literal, function_literal, if_head, application_head, attribute_head, this_head, parameter_head, no_head, head_of}
 use Rattle.saiga.proofs.Reading.{read-width}
 use Rattle.values.proofs.Bytes.{bytes-at}
-use Rattle.expressions.specs.Widths.{Starts}
+use Rattle.expressions.specs.Widths.{Starts, head_width}
 use Rattle.engine.specs.FrameWords.{if_kind, left_kind, node_word}
 use Rattle.engine.specs.Decode.{forms_in}
 use Rattle.engine.specs.Steps.{Memory, Stepped, goes, returned, pushed, write_word, this_node, this_parameter, read_head, read_next}
 use Rattle.expressions.specs.Noted.{WidthOf}
 use Rattle.engine.specs.Ready.{memory_of, ParameterReady, HeadReady, ReadReady}
 use Rattle.engine.specs.declared.Registers.{Registers}
-use Rattle.engine.proofs.RunMemory.{goes-on-written}
 
 -- ---- Operands
 
@@ -32,6 +32,28 @@ byte-operand e h = bytes-at 0 e 1 (omega arith) ∙ omega arith
 pub two-operand : (e : List ℕ) → 3 ≤ length e → of_bytes (take 2 (drop 1 e)) ≡ get_or e 1 0 + 256 * get_or e 2 0
 unfolding of_bytes
 two-operand e h = bytes-at 1 e 1 (omega arith) ∙ rw (bytes-at 0 e 2 (omega arith)) (omega arith)
+
+-- What a head has behind it, by its byte.
+module _ (e : List ℕ) (operand : head_width (head_of (get_or e 0 0)) ≤ length e) where
+  pub one-byte : get_or e 0 0 ≡ 0x11 → 2 ≤ length e
+  unfolding head_of
+  one-byte is = rw is at operand
+
+  pub four-bytes : get_or e 0 0 ≡ 0x12 → 5 ≤ length e
+  unfolding head_of
+  four-bytes is = rw is at operand
+
+  pub two-bytes : get_or e 0 0 ≡ 0x13 → 3 ≤ length e
+  unfolding head_of
+  two-bytes is = rw is at operand
+
+  pub code-byte : get_or e 0 0 ≡ 0x14 → 2 ≤ length e
+  unfolding head_of
+  code-byte is = rw is at operand
+
+  pub number-byte : get_or e 0 0 ≡ 0x22 → 2 ≤ length e
+  unfolding head_of
+  number-byte is = rw is at operand
 
 -- ---- Heads
 
@@ -107,21 +129,17 @@ module _ {sheet e run : List ℕ} {m : Registers} (ready : ReadReady sheet e run
     unfolding head_of read_head
     reads-function is = rw (get_or-drop 1 e 0 0) at (reads_as function_literal (rw is))
 
-    -- a frame's word is written
-    pushes : (w k : ℕ) → Reads (goes (pushed m w) (write_word mem m.frames k)) → Reads (goes (pushed m w) (memory_of store (set run m.frames k)))
-    pushes w k reads = goes-on-written (pushed m w) store run m.frames k ready.room ∙ reads
-
-    pub reads-if : get_or e 0 0 ≡ 0x20 → Reads (goes (pushed m 1) (memory_of store (set run m.frames if_kind)))
+    pub reads-if : get_or e 0 0 ≡ 0x20 → Reads (goes (pushed m 1) (write_word mem m.frames if_kind))
     unfolding head_of read_head
-    reads-if is = pushes 1 if_kind (reads_as if_head (rw is))
+    reads-if is = reads_as if_head (rw is)
 
-    pub reads-application : get_or e 0 0 ≡ 0x21 → Reads (goes (pushed m 1) (memory_of store (set run m.frames left_kind)))
+    pub reads-application : get_or e 0 0 ≡ 0x21 → Reads (goes (pushed m 1) (write_word mem m.frames left_kind))
     unfolding head_of read_head
-    reads-application is = pushes 1 left_kind (reads_as application_head (rw is))
+    reads-application is = reads_as application_head (rw is)
 
-    pub reads-attribute : get_or e 0 0 ≡ 0x22 → Reads (goes (pushed m 2) (memory_of store (set run m.frames (node_word (get_or e 1 0)))))
+    pub reads-attribute : get_or e 0 0 ≡ 0x22 → Reads (goes (pushed m 2) (write_word mem m.frames (node_word (get_or e 1 0))))
     unfolding head_of read_head
-    reads-attribute is = pushes 2 (node_word (get_or e 1 0)) (rw (get_or-drop 1 e 0 0) at (reads_as attribute_head (rw is)))
+    reads-attribute is = rw (get_or-drop 1 e 0 0) at (reads_as attribute_head (rw is))
 
     pub reads-this : get_or e 0 0 ≡ 0x30 → Reads (goes (returned m 1 (this_node (forms_in run) m)) mem)
     unfolding head_of read_head
@@ -131,8 +149,10 @@ module _ {sheet e run : List ℕ} {m : Registers} (ready : ReadReady sheet e run
     unfolding read_head
     reads-parameter rest = reads_as parameter_head (last-head rest)
 
+pub ruleset operand_laws = (one-byte, four-bytes, two-bytes, code-byte, number-byte, reads-unit, reads-bool, reads_int, reads-node, reads-function, reads-if, reads-application, reads-attribute, reads-this, reads-parameter, two-operand, parameter-ready)
+
 -- ---- What is passed over
 
-pub skip-inside : {e : List ℕ} {skip : ℕ} → Starts e → WidthOf e skip → skip ≤ length e
-skip-inside {e} starts width =
+pub skip_inside : {e : List ℕ} {skip : ℕ} → Starts e → WidthOf e skip → skip ≤ length e
+skip_inside {e} starts width =
     omega (arith, width starts.scope starts.expr starts.width starts.read, read-width _ _ e _ _ starts.read)

@@ -1,36 +1,21 @@
 -- The limits of a counted step: what holds of the stop, of the pause and of the step, each where it is due, holds of what comes.
 use mathlib.Core.Bool.{true, false}
 use mathlib.Core.List.{List}
-use mathlib.Core.Option.{none}
+use Rattle.std.specs.Prelude.{None as none, Option, Some as some}
 use mathlib.Core.Path.{◌≡◌}
 use Prim.Native.Nat.{ℕ, ◌≤◌, ◌<◌}
 use lib.Dec.{leb}
 use lib.ListN.{get_or}
-use borrow.Author.Tests.{leb-true, leb-false, le-leb, lt-leb}
+use borrow.Author.Tests.{leb-true, leb-false}
 use Rattle.saiga.specs.Limits.{depth_limit}
 use Rattle.saiga.specs.Values.{to_word}
 use Rattle.saiga.specs.declared.Value.{Value}
-use Rattle.saiga.specs.declared.Applied.{Applied}
-use Rattle.saiga.specs.declared.Applied.TheVariants.{Gives as gives, Overflow as overflows}
 use Rattle.saiga.proofs.Preservation.{either}
 use Rattle.sheets.specs.Scan.{figure_place, figure_at, indexed}
 use Rattle.stores.specs.declared.Key.{Key}
 use Rattle.engine.specs.OpenKeys.{key_open}
 use Rattle.engine.specs.declared.Registers.{Registers}
 use Rattle.engine.specs.Steps.{Memory, Stepped, goes, waits, stops, answered, until_limit, within, take_right, open_figure, take_kept}
-
-module _ (budget limit : ℕ) (m : Registers) (next : Stepped) where
-  pub within-spent : budget ≤ m.steps → stops 15 ≡ within budget limit m next
-  unfolding within
-  within-spent used = rw (le-leb _ _ used)
-
-  pub within-waits : m.steps < budget → limit ≤ m.steps → waits ≡ within budget limit m next
-  unfolding within
-  within-waits left reached = rw (lt-leb _ _ left, le-leb _ _ reached)
-
-  pub within-goes : m.steps < budget → m.steps < limit → next ≡ within budget limit m next
-  unfolding within
-  within-goes left before = rw (lt-leb _ _ left, lt-leb _ _ before)
 
 module _ (P : Stepped → Type 0) (limit : ℕ) (m : Registers) (next : Stepped) where
   pub until-holds : (limit ≤ m.steps → P waits) → (m.steps < limit → P next) → P (until_limit limit m next)
@@ -45,12 +30,12 @@ module _ (P : Stepped → Type 0) (limit : ℕ) (m : Registers) (next : Stepped)
       (λ unused. let left = leb-false _ _ unused in until-holds (pause left) (step left))
 
 -- AppApp, with what the function gives.
-pub right-holds : (P : Stepped → Type 0) (budget limit : ℕ) (mem : Memory) (m : Registers) (a : Applied) → P (stops 17) → P (stops 15) → P waits
+pub right-holds : (P : Stepped → Type 0) (budget limit : ℕ) (mem : Memory) (m : Registers) (a : Option Value) → P (stops 17) → P (stops 15) → P waits
     → ((v : Value) → m.steps < limit → P (goes (answered m m.kept v) mem)) → P (take_right budget limit mem m a)
 unfolding take_right
-right-holds P budget limit mem m (gives v) overflow spent pause step =
+right-holds P budget limit mem m (some v) overflow spent pause step =
     within-holds P limit m _ budget (λ _. spent) (λ _ _. pause) (λ _ before. step v before)
-right-holds P budget limit mem m overflows overflow spent pause step = overflow
+right-holds P budget limit mem m none overflow spent pause step = overflow
 
 -- AttrApp of what is not kept: a circle, the budget, depth and the limit before its definition.
 pub missing-holds : (P : Stepped → Type 0) (sheet index : List ℕ) (budget limit : ℕ) (mem : Memory) (m : Registers) (n a : ℕ)

@@ -1,15 +1,14 @@
 -- The run, move by move: it starts where a question is accepted, every move keeps the invariant and makes the measure fall, and when
 -- the moves end, registers and memory have what the run leaves.
-use mathlib.Core.Bool.{Bool, true, false, cond, false≢true}
+use mathlib.Core.Bool.{false≢true}
 use mathlib.Core.List.{List, [], append-nil}
 use mathlib.Core.Path.{◌≡◌, refl, sym, ◌∙◌, ap, subst}
 use Prim.Native.Nat.{ℕ, suc, ◌/◌, ◌≤◌, ◌<◌}
 use native.Mathlib.Nat.{sub-zero}
 use native.Mathlib.Omega.{arith}
-use lib.Dec.{ltb, leb}
+use lib.Dec.{ltb}
 use lib.ListN.{length, take-append-drop}
 use lib.Seq.{take-length, drop-length}
-use borrow.Author.Tests.{leb-true}
 use Rattle.saiga.specs.Values.{Ty, base}
 use Rattle.saiga.specs.declared.Value.{Value}
 use Rattle.saiga.specs.declared.Value.TheVariants.{Unit as unit}
@@ -18,8 +17,8 @@ use Rattle.saiga.specs.Caching.{Entry, Counted, Due, State, Ending, with_value, 
 use Rattle.saiga.specs.Tally.{tally}
 use Rattle.saiga.specs.Runs.{Runs}
 use Rattle.saiga.specs.Store.{check_store, entries_bytes, left_store}
-use Rattle.saiga.specs.Expressions.{Expr, Whole, no_expression, read_whole}
-use Rattle.saiga.specs.Ask.{lent, check_type, check_question, asked, reason_number, ended_answer, outcome, run_question}
+use Rattle.saiga.specs.Expressions.{Expr}
+use Rattle.saiga.specs.Ask.{lent, check_question, asked, reason_number, ended_answer, outcome, run_question}
 use Rattle.saiga.specs.Sound.{RunningIn, EntryIn, All}
 use Rattle.saiga.proofs.Accepted.{accepted-sheet}
 use Rattle.saiga.proofs.Entries.{store_in}
@@ -32,9 +31,9 @@ use Rattle.engine.specs.Machine.{Machine, Next, by_move, by_step, open_forms, st
 use Rattle.engine.specs.Good.{Pieces, Good}
 use Rattle.engine.specs.Cost.{measure}
 use Rattle.engine.proofs.Apart.{apart-on}
-use Rattle.engine.proofs.Bounds.{move-falls, small-on, steps_on, represents-sized}
+use Rattle.engine.proofs.Bounds.{whole-short, move-falls, small-on, steps_on, represents-sized}
 use Rattle.engine.proofs.Simulation.{Uncounted, same, written, Simulates, simulates, good-on, runs_on}
-use Rattle.engine.proofs.Start.{start, start_small, question-start, pieces}
+use Rattle.engine.proofs.Start.{whole-accepted, start, start_small, question-start, pieces}
 use Rattle.engine.specs.Decode.{frame_limit, forms_size, sheet_in, sheet_of, entries_of, frames_in, mode_of, machine_of}
 use Rattle.engine.specs.Steps.{Memory, Stepped, goes, waits, step_of}
 use Rattle.engine.specs.Steps as Steps
@@ -47,12 +46,8 @@ use Rattle.engine.proofs.Left.{store-moves, left-on}
 -- ---- The start
 
 pub question-short : (s : Sheet) (q : List ℕ) (e : Expr) → check_question s q ≡ accepted e → length q ≤ 256
-unfolding check_question check_type read_whole
-question-short s q e h = go (leb (length q) 256) _ refl h
-  where
-    go : (b : Bool) (w : Whole) → leb (length q) 256 ≡ b → check_type s (cond b w no_expression) ≡ accepted e → length q ≤ 256
-    go true w t h = leb-true _ _ t
-    go false w t h = absurd (let z : ◌≡◌ {A = ℕ} 0 1 = cc in omega arith)
+unfolding check_question
+question-short s q e h = whole-short (question_scope s) q e (whole-accepted s _ e h)
 
 module _ (sheet question store words forms : List ℕ) (kept : ℕ) (any : Value) (entries : List Entry) (passes : check_store (sheet_of sheet) store kept ≡ accepted entries) where
   abbrev lent-memory : Memory

@@ -7,7 +7,8 @@ use Prim.Native.Nat.{ℕ, zero, suc, ◌+◌, ◌*◌, ◌-◌, ◌<◌}
 use native.Mathlib.Omega.{arith}
 use lib.Dec.{eqb}
 use lib.ListN.{length, get_or}
-use Rattle.saiga.specs.Values.{bool_t, node_t, Ty, base, ◌⇒◌, to_word}
+use Rattle.saiga.specs.Values.{Ty, base, ◌⇒◌, to_word}
+use Rattle.saiga.specs.declared.Base.TheVariants.{Bool as bool_t, Node as node_t}
 use Rattle.saiga.specs.declared.Value.{Value}
 use Rattle.saiga.specs.Types.{Attribute, attribute_at}
 use Rattle.saiga.specs.Sheet.{Sheet}

@@ -1,19 +1,19 @@
 -- The array of a run: what is read and written among its frames and its forms, and that the index of the open forms stays as it was.
-use mathlib.Core.Bool.{true}
 use mathlib.Core.List.{List}
 use mathlib.Core.Path.{◌≡◌, refl, sym, ap, ◌∙◌}
 use Prim.Native.Nat.{ℕ, ◌+◌, ◌*◌, ◌-◌, ◌/◌, ◌%◌, ◌≤◌, ◌<◌}
 use native.Mathlib.Omega.{arith}
-use lib.ListN.{length, drop, get_or, set, length-take, length-drop}
+use lib.ListN.{length, take, drop, get_or, set, length-take, length-drop}
 use lib.Seq.{take-set-le, drop-set-lt, take-set-lt, drop-set-add, get_or-take, get_or-drop}
 use Rattle.saiga.specs.declared.Value.{Value}
 use Rattle.saiga.specs.declared.Value.TheVariants.{Node as node}
-use Rattle.saiga.specs.Limits.{node_limit, depth_limit}
-use Rattle.saiga.specs.Values.{word_limit, base_of, is_word, of_word}
+use Rattle.saiga.specs.Limits.{depth_limit}
+use Rattle.saiga.specs.Values.{base_of, of_word}
 use Rattle.values.specs.Layout.{parameter_at}
 use Rattle.engine.specs.Decode.{frame_limit, forms_size, opens_size, opens_place, run_size, form_place, words_in, forms_in, opens_in, form_occurrence}
-use Rattle.engine.specs.Steps.{goes, write_word, this_node, this_parameter}
-use Rattle.engine.specs.Ready.{memory_of, innermost_place, NodeReady, ParameterReady}
+use Rattle.engine.specs.Steps.{this_node, this_parameter}
+use Rattle.engine.specs.Represents.{Packs}
+use Rattle.engine.specs.Ready.{memory_of, innermost_place, NodeReady, ParameterReady, Rewrites}
 use Rattle.engine.specs.declared.Registers.{Registers}
 
 -- ---- Lengths
@@ -52,22 +52,10 @@ open_at run i j is = rw is (sym (get_or-drop opens_place run i 0))
 
 -- what stands at the place `f` of the innermost form
 module _ (run : List ℕ) (m : Registers) (f : ℕ) (is : f ≡ innermost_place m) where
-  pub node-fits : NodeReady run m → get_or run f 0 / 32 < 65536
-  node-fits ready = rw is ready.small
-
   pub node-read : NodeReady run m → node (get_or run f 0 / 32) ≡ this_node (forms_in run) m
   node-read ready = ap (λ x. node (x / 32)) (form-at run (4 * (m.forms - 1)) f is (omega (arith, ready.opened, ready.few)))
 
-  pub word_fits : get_or run (innermost_place m + 1) 0 < word_limit → get_or run (f + 1) 0 < word_limit
-  word_fits small = rw is small
-
-  pub attribute_declared : (sheet : List ℕ) → ParameterReady sheet run m → 3 * (get_or run f 0 % 32) + 3 ≤ length sheet
-  attribute_declared sheet ready = rw is (omega (arith, ready.declared))
-
   module _ (sheet : List ℕ) (code : ℕ) (typed : code ≡ parameter_at sheet (get_or run f 0 % 32)) where
-    pub word_typed : ParameterReady sheet run m → is_word node_limit (base_of code) (get_or run (f + 1) 0) ≡ true
-    word_typed ready = rw (typed, is) ready.word
-
     pub parameter-read : ParameterReady sheet run m → (v : Value) → v ≡ of_word (base_of code) (get_or run (f + 1) 0) → v ≡ this_parameter sheet (forms_in run) m
     unfolding form_occurrence
     parameter-read ready v of =
@@ -75,22 +63,32 @@ module _ (run : List ℕ) (m : Registers) (f : ℕ) (is : f ≡ innermost_place 
         let small : k + 1 < forms_size = omega (arith, ready.node.opened, ready.node.few) in
         of ∙ rw (typed, form-at run k f is (omega arith), form-at run (k + 1) (f + 1) (omega (arith, is)) small)
 
+pub ruleset form_reads = (node-read, parameter-read)
+
 -- ---- Writing
 
 opens_kept : (run : List ℕ) (j w : ℕ) → j < opens_place → opens_in (set run j w) ≡ opens_in run
 unfolding opens_in
 opens_kept run j w h = drop-set-lt opens_place run j w h
 
-pub frame-written : (store run : List ℕ) (i w : ℕ) → i < frame_limit → memory_of store (set run i w) ≡ write_word (memory_of store run) i w
-unfolding words_in forms_in
-frame-written store run i w h = rw (take-set-lt frame_limit run i w h, drop-set-lt frame_limit run i w h)
+pub frame-words : (run : List ℕ) (i w : ℕ) → i < frame_limit → words_in (set run i w) ≡ set (words_in run) i w
+unfolding words_in
+frame-words run i w h = take-set-lt frame_limit run i w h
 
-pub goes-on-written : (r : Registers) (store run : List ℕ) (i w : ℕ) → i < frame_limit
-    → goes r (memory_of store (set run i w)) ≡ goes r (write_word (memory_of store run) i w)
-goes-on-written r store run i w h = ap (λ after. goes r after) (frame-written store run i w h)
+pub frame-forms : (run : List ℕ) (i w : ℕ) → i < frame_limit → forms_in (set run i w) ≡ forms_in run
+unfolding forms_in
+frame-forms run i w h = ap (take forms_size) (drop-set-lt frame_limit run i w h)
 
 pub frame-beyond : (run : List ℕ) (i w : ℕ) → i < frame_limit → opens_in (set run i w) ≡ opens_in run
 frame-beyond run i w h = opens_kept run i w (omega arith)
+
+-- The innermost frame's word is made one that holds a value.
+pub rewritten : {m : Registers} {run run' : List ℕ} {word : ℕ → ℕ} {packed w : ℕ} → Packs m.value packed → w ≡ word packed
+    → words_in run' ≡ set (words_in run) (m.frames - 1) w → forms_in run' ≡ forms_in run → opens_in run' ≡ opens_in run → Rewrites m run run' word
+rewritten {packed = packed} packs is words forms beyond =
+    record { packed = packed; packs = packs; written = λ store. rw (words, forms, is); beyond = beyond }
+
+pub ruleset frame_writes = (frame-words, frame-forms, frame-beyond)
 
 pub words-kept : (run : List ℕ) (j w : ℕ) → frame_limit ≤ j → words_in (set run j w) ≡ words_in run
 unfolding words_in
@@ -148,7 +146,7 @@ module _ (run : List ℕ) (k a b c d : ℕ) (few : k < depth_limit) where
 
   pub form-opened : (store : List ℕ) (top word : ℕ) → top < frame_limit
       → memory_of store (set four top word) ≡ record { store = store; words = set (words_in run) top word; forms = after }
-  form-opened store top word h = frame-written store four top word h ∙ rw (same-words, form-after)
+  form-opened store top word h = rw (frame-words four top word h, frame-forms four top word h, same-words, form-after)
 
   pub form-beyond : (top word : ℕ) → top < frame_limit → opens_in (set four top word) ≡ opens_in run
   form-beyond top word h =

@@ -1,14 +1,12 @@
 -- The machine's moves are the caching steps.
 use mathlib.Core.Bool.{Bool, true, false}
 use mathlib.Core.Bool as Bool
-use mathlib.Core.Option.{Option, none, some}
+use Rattle.std.specs.Prelude.{Option, None as none, Some as some}
 use mathlib.Core.List.{List, [], ◌∷◌}
 use mathlib.Core.Path.{◌≡◌, refl, ap, ◌∙◌}
 use Prim.Native.Nat.{ℕ, suc}
 use lib.Dec.{ltb, eqb}
 use Rattle.saiga.specs.Values.{null, truth, node_of, apply}
-use Rattle.saiga.specs.declared.Applied.{Applied}
-use Rattle.saiga.specs.declared.Applied.TheVariants.{Gives as gives, Overflow as overflows}
 use Rattle.saiga.specs.declared.Value.{Value}
 use Rattle.saiga.specs.declared.Value.TheVariants.{Unit as unit}
 use Rattle.saiga.specs.Expressions.{Expr, Head, base_literal, function_literal, if_head, application_head, attribute_head, this_head, parameter_head, no_head, head_of}
@@ -112,12 +110,12 @@ module _ (s : Sheet) (capacity budget : ℕ) where
   branch-does v fs l entries steps ready true e = counting fs _ _ _ entries steps CondTrue _ (λ b. rw e) refl (ready.0, (ready.1, ready.2))
   branch-does v fs l entries steps ready false e = counting fs _ _ _ entries steps CondFalse _ (λ b. rw e) refl (ready.1, ready.2)
 
-  application-does : (fs : List Frame) (l : List ℕ) (entries : List Entry) (steps : ℕ) → Ready s fs l → (f v : Value) (a : Applied) → apply f v ≡ a
+  application-does : (fs : List Frame) (l : List ℕ) (entries : List Entry) (steps : ℕ) → Ready s fs l → (f v : Value) (a : Option Value) → apply f v ≡ a
       → Does (around fs l (app (val f) (val v)) entries steps)
       (application_due s capacity budget (machine (returning v) l (on_right f ∷ fs) entries steps) fs a)
   unfolding state_of term_of application_due within due due_part app_app
-  application-does fs l entries steps ready f v (gives w) e = counting fs l _ (val w) entries steps AppApp _ (λ b. rw e) refl ready
-  application-does fs l entries steps ready f v overflows e =
+  application-does fs l entries steps ready f v (some w) e = counting fs l _ (val w) entries steps AppApp _ (λ b. rw e) refl ready
+  application-does fs l entries steps ready f v none e =
       (part-due fs l (app (val f) (val v)) entries steps (halts (as_plain by_overflow)) tt (rw e), tt)
 
   module _ (pieces : Pieces s) (m : Machine) (o : Occurrence) (fs : List Frame) (ready : Ready s fs m.rest) where

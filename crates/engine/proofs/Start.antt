@@ -1,6 +1,6 @@
 -- An accepted question starts a good machine on an accepted sheet.
 use mathlib.Core.List.{List, []}
-use mathlib.Core.Option.{Option, none, some}
+use Rattle.std.specs.Prelude.{Option, None as none, Some as some}
 use mathlib.Core.Path.{◌≡◌}
 use Prim.Native.Nat.{ℕ, ◌≤◌}
 use native.Mathlib.Omega.{arith}
@@ -32,7 +32,7 @@ typed-same none d e h = cc
 typed-same (some (base B)) d e h = cc
 typed-same (some (B ⇒ T)) d e h = cc
 
-whole-accepted : (s : Sheet) (w : Whole) (e : Expr) → check_type s w ≡ accepted e → w ≡ expression e
+pub whole-accepted : (s : Sheet) (w : Whole) (e : Expr) → check_type s w ≡ accepted e → w ≡ expression e
 unfolding check_type
 whole-accepted s no_expression e h = cc
 whole-accepted s (expression d) e h = let z = typed-same _ d e h in cc

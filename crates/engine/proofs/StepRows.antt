@@ -1,7 +1,7 @@
 -- The row of the step that is due, as the word of the innermost frame has it, is the row of the step that the machine takes.
 use mathlib.Core.Bool.{Bool, true, false}
 use mathlib.Core.Bool as Bool
-use mathlib.Core.Option.{Option, none, some}
+use Rattle.std.specs.Prelude.{Option, None as none, Some as some}
 use mathlib.Core.List.{List, ◌∷◌}
 use mathlib.Core.Path.{◌≡◌, refl}
 use Prim.Native.Nat.{ℕ, zero, suc, ◌-◌}
@@ -11,8 +11,6 @@ use lib.Dec.{ltb, eqb}
 use lib.ListN.{get_or}
 use borrow.Author.Tests.{ne_eqb}
 use Rattle.saiga.specs.Values.{null, truth, apply}
-use Rattle.saiga.specs.declared.Applied.{Applied}
-use Rattle.saiga.specs.declared.Applied.TheVariants.{Gives as gives, Overflow as overflows}
 use Rattle.saiga.specs.declared.Value.{Value}
 use Rattle.saiga.specs.Sheet.{Sheet}
 use Rattle.saiga.specs.Terms.{Occurrence}
@@ -40,10 +38,10 @@ module _ (s : Sheet) (capacity budget : ℕ) (m : Machine) where
   branch_row true fs = either (RowFits _) (ltb m.steps budget) {y = stops _} (λ _. refl) (λ _. tt)
   branch_row false fs = either (RowFits _) (ltb m.steps budget) {y = stops _} (λ _. refl) (λ _. tt)
 
-  application-row : (f : Value) (fs : List Frame) (a : Applied) → RowFits (frame_row (on_right f)) (application_due s capacity budget m fs a)
+  application-row : (f : Value) (fs : List Frame) (a : Option Value) → RowFits (frame_row (on_right f)) (application_due s capacity budget m fs a)
   unfolding application_due within frame_row row_of
-  application-row f fs (gives v) = either (RowFits _) (ltb m.steps budget) {y = stops _} (λ _. refl) (λ _. tt)
-  application-row f fs overflows = tt
+  application-row f fs (some v) = either (RowFits _) (ltb m.steps budget) {y = stops _} (λ _. refl) (λ _. tt)
+  application-row f fs none = tt
 
   attribute-row : (o : Occurrence) (v : Value) (fs : List Frame) → RowFits (frame_row (on_parameter v o.attribute)) (attribute_due s capacity budget m o fs)
   unfolding attribute_due frame_row row_of

@@ -1,6 +1,7 @@
 -- One move on registers and memory, as the code makes it, is a move of the machine that they hold.
 use mathlib.Core.Bool.{Bool, true, false, false≢true}
 use mathlib.Core.List.{List, [], ◌∷◌}
+use Rattle.std.specs.Prelude.{Option, None, Some}
 use mathlib.Core.Path.{◌≡◌, refl, sym, ap, ◌∙◌}
 use Prim.Native.Nat.{ℕ, ◌+◌, ◌*◌, ◌-◌, ◌/◌, ◌≤◌, ◌<◌}
 use native.Mathlib.Nat.{mod-lt, add-zero}
@@ -10,11 +11,9 @@ use lib.Dec.{eqb, lit<}
 use lib.ListN.{length, drop, get_or, set, length-set}
 use borrow.Author.Tests.{leb-true, ltb-true, eqb-true, eqb-false, lt-ltb, le-ltb}
 use Rattle.saiga.specs.Values.{truth, node_of, apply}
-use Rattle.saiga.specs.declared.Applied.{Applied}
-use Rattle.saiga.specs.declared.Applied.TheVariants.{Gives, Overflow}
 use Rattle.saiga.specs.declared.Value.{Value}
 use Rattle.saiga.specs.declared.Value.TheVariants.{Node as node}
-use Rattle.saiga.specs.Expressions.{Expr, Scope, Head, base_literal, function_literal, if_head, application_head, attribute_head, this_head, parameter_head, no_head, head_of, operand_width, Reading, reads, whenever, read_operand, read_after, read_expr}
+use Rattle.saiga.specs.Expressions.{Expr, Scope, Head, base_literal, function_literal, if_head, application_head, attribute_head, this_head, parameter_head, no_head, head_of, operand_width, Reading, reads, read_operand, read_after, read_expr}
 use Rattle.saiga.specs.Sheet.{Sheet, rule_scope, question_scope, attribute_count}
 use Rattle.saiga.specs.Terms.{Occurrence}
 use Rattle.saiga.specs.Plain.{by_overflow}
@@ -35,7 +34,7 @@ use Rattle.engine.specs.declared.Registers.{Registers}
 use Rattle.engine.specs.Good.{Parses, Ready, GoodAt}
 use Rattle.engine.proofs.Bounds.{represents-sized, frames-fit}
 use Rattle.engine.specs.Machine.{Next, by_move, by_step}
-use Rattle.engine.proofs.Heads.{none_inside}
+use Rattle.engine.proofs.Heads.{tested, none_inside}
 use Rattle.engine.specs.Represents.{machine_in, HoldsIn, Represents, Matches, Packs, PacksIn}
 use Rattle.engine.proofs.Decoding.{WordOf, if-kind, left-kind, skip-kind, right-kind, node-kind, forward-kind, right-word, node-word, parameter-word, pushed-frame, top_frame, turned-frame, frames-count, innermost-form, rest-on, rest-length, rest-inside, rest-behind}
 use Rattle.engine.proofs.Limited.{within-holds}
@@ -60,11 +59,6 @@ Fits sc this_head l = sc.has-this ≡ true
 Fits sc parameter_head l = sc.has-parameter ≡ true
 Fits sc no_head l = ⊥
 
-tested : (b : Bool) {r : Reading} {e : Expr} {w : ℕ} → whenever b r ≡ reads e w → (b ≡ true) × (r ≡ reads e w)
-unfolding whenever
-tested true h = (refl, h)
-tested false h = let z : ◌≡◌ {A = ℕ} 0 1 = cc in absurd (omega arith)
-
 after-fits : (sc : Scope) (sub : List ℕ → Reading) (h : Head) (l : List ℕ) {e : Expr} {w : ℕ} → read_after sc sub h l ≡ reads e w → Fits sc h l
 unfolding read_after read_operand
 after-fits sc sub (base_literal t) l r = leb-true _ _ (tested _ r).0
@@ -74,7 +68,7 @@ after-fits sc sub application_head l r = tt
 after-fits sc sub attribute_head l r = let (some, more) = tested _ r in (leb-true _ _ some, ltb-true _ _ (tested _ more).0)
 after-fits sc sub this_head l r = (tested _ r).0
 after-fits sc sub parameter_head l r = (tested _ r).0
-after-fits sc sub no_head l r = let z : ◌≡◌ {A = ℕ} 0 1 = cc in absurd (omega arith)
+after-fits sc sub no_head l r = cc
 
 pub head-fits : {sc : Scope} {c : ℕ} {l : List ℕ} → Parses sc (c ∷ l) → Fits sc (head_of c) l
 unfolding read_expr
@@ -319,10 +313,10 @@ module _ (sheet question : List ℕ) (budget limit : ℕ) (mem : Memory) (m : Re
               right : {f : Value} → frames ≡ on_right f ∷ below → Matched (take_right budget limit mem m (apply f m.value))
               right {f} e = go (apply f m.value) (is-given e)
                 where
-                  go : (a : Applied) → next ≡ application_due s capacity budget M below a → Matched (take_right budget limit mem m a)
-                  go (Gives v) is =
+                  go : (a : Option Value) → next ≡ application_due s capacity budget M below a → Matched (take_right budget limit mem m a)
+                  go (Some v) is =
                       counts AppApp _ is λ on. pops true m.at (m.steps + 1) v r.holds.from refl (rw e) (rw add-one (by_step AppApp on))
-                  go Overflow is = (as_plain by_overflow, is, refl)
+                  go None is = (as_plain by_overflow, is, refl)
 
               node-given : Packs m.value packed → frames ≡ on_node (held_attribute word) ∷ below
                   → Matched (goes (turned m) (write_word mem (m.frames - 1) (5 + 8 * (held_attribute word + 32 * packed))))

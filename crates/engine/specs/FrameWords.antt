@@ -2,6 +2,8 @@
 use Rattle.std.specs.Prelude.{ℕ, ◌+◌, ◌*◌, ◌/◌, ◌%◌}
 use Rattle.saiga.specs.Limits.{attribute_limit}
 use Rattle.values.specs.Packed.{packed_limit}
+use Rattle.engine.specs.declared.frames.Kind.{Kind}
+use Rattle.engine.specs.declared.frames.Kind.TheVariants.{If, Left, Skip, Right, Node, Parameter, Form, Forward}
 
 -- ---- Kinds
 
@@ -33,6 +35,17 @@ form_kind = 6
 
 abbrev pub forward_kind : ℕ
 forward_kind = 7
+
+-- the kind in words of the code
+abbrev pub kind_number : Kind → ℕ
+kind_number If = if_kind
+kind_number Left = left_kind
+kind_number Skip = skip_kind
+kind_number Right = right_kind
+kind_number Node = node_kind
+kind_number Parameter = parameter_kind
+kind_number Form = form_kind
+kind_number Forward = forward_kind
 
 -- ---- What a word holds
 

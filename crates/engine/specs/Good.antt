@@ -1,6 +1,6 @@
 -- Machines whose bytes are expressions as far as their frames go, whose open forms are apart, and which are small.
 use Rattle.std.specs.Prelude.{false, List, [], ◌∷◌, ◌≡◌, ℕ, ◌+◌, ◌≤◌, length}
-use Rattle.std.proofs.Math.Option.{none}
+use Rattle.std.specs.Prelude.{None as none}
 use Rattle.saiga.specs.Limits.{expression_limit}
 use Rattle.saiga.specs.declared.Value.{Value}
 use Rattle.saiga.specs.Expressions.{Expr, Scope, reads, read_expr, expression, read_whole}

@@ -2,10 +2,8 @@
 -- (Simulation.antt of proofs/).
 use Rattle.std.specs.Prelude.{Bool, true, false, ◌≡◌, List, [], ◌∷◌, ℕ, suc, ltb, eqb, length, take, drop, get_or}
 use Rattle.std.proofs.Math.Bool as Bool
-use Rattle.std.proofs.Math.Option.{Option, none, some}
+use Rattle.std.specs.Prelude.{Option, None as none, Some as some}
 use Rattle.saiga.specs.Values.{null, function_of, of_bytes, of_word, truth, node_of, apply}
-use Rattle.saiga.specs.declared.Applied.{Applied}
-use Rattle.saiga.specs.declared.Applied.TheVariants.{Gives as gives, Overflow as overflows}
 use Rattle.saiga.specs.declared.Value.{Value}
 use Rattle.saiga.specs.declared.Value.TheVariants.{Unit as unit, Node as node, Function as function}
 use Rattle.saiga.specs.Expressions.{Expr, literal, Scope, Head, base_literal, function_literal, if_head, application_head, attribute_head, this_head, parameter_head, no_head, head_of, operand_width, Reading, malformed, reads, read_expr}
@@ -114,7 +112,7 @@ pub data Move : Type 0 where
 module _ (s : Sheet) (capacity budget : ℕ) (m : Machine) where
   -- the machine with another mode, rest and frames
   abbrev pub goes : Mode → List ℕ → List Frame → Machine
-  goes mode rest frames = record { mode = mode; rest = rest; frames = frames; entries = m.entries; steps = m.steps }
+  goes mode rest frames = record m { mode = mode; rest = rest; frames = frames }
 
   abbrev pub counted : Mode → List ℕ → List Frame → List Entry → Machine
   counted mode rest frames entries = record { mode = mode; rest = rest; frames = frames; entries = entries; steps = suc m.steps }
@@ -140,9 +138,9 @@ module _ (s : Sheet) (capacity budget : ℕ) (m : Machine) where
   branch false fs = within CondFalse (counted evaluating (pass_over (scope_in s (open_forms fs)) m.rest) fs m.entries)
 
   -- AppApp: with what the function gives, or none
-  unfoldable pub application_due : List Frame → Applied → Move
-  application_due fs (gives v) = within AppApp (counted (returning v) m.rest fs m.entries)
-  application_due fs overflows = stops (as_plain by_overflow)
+  unfoldable pub application_due : List Frame → Option Value → Move
+  application_due fs (some v) = within AppApp (counted (returning v) m.rest fs m.entries)
+  application_due fs none = stops (as_plain by_overflow)
 
   -- AttrApp. A kept value, and a figure, are there at once: the form around them is written and gone, and there is no frame for it. So no more than
   -- 64 forms have a frame.
@@ -176,13 +174,7 @@ module _ (s : Sheet) (capacity budget : ℕ) (m : Machine) where
   give v (on_parameter n a ∷ fs) = attribute_due record { node = node_of n; attribute = a; parameter = v } fs
   give v (on_forward a ∷ fs) = moves (goes (returning (innermost (open_forms fs)).parameter) m.rest (on_parameter v a ∷ fs))
   give v (on_form o outer ∷ fs) =
-      moves record {
-        mode = returning v;
-        rest = outer;
-        frames = fs;
-        entries = write capacity m.entries record { occurrence = o; value = v };
-        steps = m.steps;
-      }
+      moves record m { mode = returning v; rest = outer; frames = fs; entries = write capacity m.entries record { occurrence = o; value = v } }
 
   unfoldable pub read_next : List ℕ → Machine
   read_next [] = goes (returning unit) [] m.frames

@@ -90,5 +90,4 @@ pub record Passes (e : List ℕ) (P : ℕ → Type 0) : Type 0 where
 
 -- the registers back at the frame below, behind the branch that is not taken
 abbrev pub skipped : Registers → ℕ → Registers
-skipped m skip =
-    record { returning = true; at = m.at + skip; end = m.end; frames = m.frames - 1; forms = m.forms; kept = m.kept; steps = m.steps; value = m.value }
+skipped m skip = record m { returning = true; at = m.at + skip; frames = m.frames - 1 }

@@ -1,7 +1,8 @@
 -- What registers and lent memory must hold for a move of the code to be a move of the machine, and what is then the same.
 use Rattle.std.specs.Prelude.{true, List, ◌≡◌, ℕ, ◌-◌, ◌/◌, ◌≤◌, ◌<◌, length, get_or}
 use Rattle.saiga.specs.Limits.{entry_width}
-use Rattle.saiga.specs.Values.{Base, base}
+use Rattle.saiga.specs.Values.{base}
+use Rattle.saiga.specs.declared.Base.{Base}
 use Rattle.saiga.specs.declared.Value.{Value}
 use Rattle.saiga.specs.Sheet.{node_count, accepted, check_sheet}
 use Rattle.saiga.specs.Caching.{Counted, Reason}

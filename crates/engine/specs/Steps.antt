@@ -1,10 +1,8 @@
 -- One move of the machine on registers and lent memory, as the code makes it. Steps.antt of proofs/ shows that it is a move of Machine.antt.
 use Rattle.std.specs.Prelude.{Bool, true, false, cond, List, [], ◌∷◌, ℕ, ◌+◌, ◌*◌, ◌-◌, ◌/◌, leb, eqb, length, take, drop, get_or, set}
-use Rattle.std.proofs.Math.Option.{Option, none, some}
+use Rattle.std.specs.Prelude.{Option, None as none, Some as some}
 use Rattle.saiga.specs.Limits.{entry_width, depth_limit}
 use Rattle.saiga.specs.Values.{null, function_of, base_of, of_bytes, of_word, to_word, truth, node_of, apply}
-use Rattle.saiga.specs.declared.Applied.{Applied}
-use Rattle.saiga.specs.declared.Applied.TheVariants.{Gives as gives, Overflow as overflows}
 use Rattle.saiga.specs.declared.Value.{Value}
 use Rattle.saiga.specs.declared.Value.TheVariants.{Node as node, Function as function}
 use Rattle.saiga.specs.Expressions.{Head, base_literal, function_literal, if_head, application_head, attribute_head, this_head, parameter_head, no_head, head_of, operand_width}
@@ -36,20 +34,17 @@ pub data Stepped : Type 0 where
 -- ---- Registers
 
 abbrev pub returned : Registers → ℕ → Value → Registers
-returned m w v =
-    record { returning = true; at = m.at + w; end = m.end; frames = m.frames; forms = m.forms; kept = m.kept; steps = m.steps; value = v }
+returned m w v = record m { returning = true; at = m.at + w; value = v }
 
 abbrev pub pushed : Registers → ℕ → Registers
-pushed m w =
-    record { returning = false; at = m.at + w; end = m.end; frames = m.frames + 1; forms = m.forms; kept = m.kept; steps = m.steps; value = m.value }
+pushed m w = record m { returning = false; at = m.at + w; frames = m.frames + 1 }
 
 -- a counted step that pops a frame and has a value
 abbrev pub answered : Registers → ℕ → Value → Registers
-answered m kept v =
-    record { returning = true; at = m.at; end = m.end; frames = m.frames - 1; forms = m.forms; kept = kept; steps = m.steps + 1; value = v }
+answered m kept v = record m { returning = true; frames = m.frames - 1; kept = kept; steps = m.steps + 1; value = v }
 
 abbrev pub write_word : Memory → ℕ → ℕ → Memory
-write_word mem i w = record { store = mem.store; words = set mem.words i w; forms = mem.forms }
+write_word mem i w = record mem { words = set mem.words i w }
 
 -- the value of 0x31 inside the innermost form, and the node of 0x30
 abbrev pub this_node : List ℕ → Registers → Value
@@ -75,8 +70,7 @@ read_head sheet mem m no_head l = waits
 
 -- the registers evaluating on, with the innermost frame made another
 abbrev pub turned : Registers → Registers
-turned m =
-    record { returning = false; at = m.at; end = m.end; frames = m.frames; forms = m.forms; kept = m.kept; steps = m.steps; value = m.value }
+turned m = record m { returning = false }
 
 -- CacheWrite on bytes, of an entry of these numbers: the store and the kept number after it
 unfoldable pub appended : List ℕ → ℕ → Fields → List ℕ
@@ -96,24 +90,19 @@ close_form mem m =
     let pair = get_or mem.forms f 0 in
     let q : Key = record { node = pair_node pair; attribute = pair_attribute pair; word = get_or mem.forms (f + 1) 0 } in
     let w = cache_write mem.store m.kept (fields_for q m.value) in
-    goes record {
+    goes record m {
       returning = true;
       at = get_or mem.forms (f + 2) 0;
       end = get_or mem.forms (f + 3) 0;
       frames = m.frames - 1;
       forms = m.forms - 1;
       kept = w.1;
-      steps = m.steps;
-      value = m.value;
-    } record { store = w.0; words = mem.words; forms = mem.forms }
+    } record mem { store = w.0 }
 
 -- IF, with the rest of the running piece
 unfoldable pub take_if : ℕ → Memory → Registers → Bool → Stepped
-take_if skip mem m true =
-    goes record { returning = false; at = m.at; end = m.end; frames = m.frames; forms = m.forms; kept = m.kept; steps = m.steps + 1; value = m.value }
-    (write_word mem (m.frames - 1) skip_kind)
-take_if skip mem m false =
-    goes record { returning = false; at = m.at + skip; end = m.end; frames = m.frames - 1; forms = m.forms; kept = m.kept; steps = m.steps + 1; value = m.value } mem
+take_if skip mem m true = goes record m { returning = false; steps = m.steps + 1 } (write_word mem (m.frames - 1) skip_kind)
+take_if skip mem m false = goes record m { returning = false; at = m.at + skip; frames = m.frames - 1; steps = m.steps + 1 } mem
 
 -- a counted step that is due at the limit waits
 abbrev pub until_limit : ℕ → Registers → Stepped → Stepped
@@ -128,15 +117,15 @@ abbrev pub limited : ℕ → ℕ → Registers → Stepped → Stepped
 limited budget limit m next = cond (leb budget m.steps) (stops 15) (cond (leb depth_limit m.forms) (stops 16) (until_limit limit m next))
 
 -- AppApp, with what the function gives: 17, then the limits. Overflow that is due at the limit stops the run there.
-unfoldable pub take_right : ℕ → ℕ → Memory → Registers → Applied → Stepped
-take_right budget limit mem m (gives v) = within budget limit m (goes (answered m m.kept v) mem)
-take_right budget limit mem m overflows = stops 17
+unfoldable pub take_right : ℕ → ℕ → Memory → Registers → Option Value → Stepped
+take_right budget limit mem m (some v) = within budget limit m (goes (answered m m.kept v) mem)
+take_right budget limit mem m none = stops 17
 
 -- a figure is answered with what CacheWrite leaves
 abbrev pub keeps_figure : Memory → Registers → ℕ → ℕ → ℕ → Value → Stepped
 keeps_figure mem m n a word v =
     let w = cache_write mem.store m.kept (fields_for record { node = n; attribute = a; word = word } v) in
-    goes (answered m w.1 v) record { store = w.0; words = mem.words; forms = mem.forms }
+    goes (answered m w.1 v) record mem { store = w.0 }
 
 -- One frame more is pushed, the forward's of attribute a: the form that was opened waits for attribute a of the node that its piece gives.
 abbrev pub forwarding : ℕ → Stepped → Stepped
@@ -150,17 +139,13 @@ unfoldable pub open_piece : List ℕ → Memory → Registers → ℕ → ℕ �
 open_piece sheet mem m n a word number =
     let f = 4 * m.forms in
     let start = number + 2 in
-    goes record {
+    goes record m {
       returning = false;
       at = start;
       end = start + of_bytes (take 2 (drop number sheet));
-      frames = m.frames;
       forms = m.forms + 1;
-      kept = m.kept;
       steps = m.steps + 1;
-      value = m.value;
-    } record {
-      store = mem.store;
+    } record mem {
       words = set mem.words (m.frames - 1) form_kind;
       forms = set (set (set (set mem.forms f (pair_of n a)) (f + 1) word) (f + 2) m.at) (f + 3) m.end;
     }
@@ -202,7 +187,7 @@ module _ (sheet index : List ℕ) where
       cond (eqb (kind_of w) if_kind) (within budget limit m (take_if skip mem m (truth m.value)))
       (cond (eqb (kind_of w) left_kind) (goes (turned m) (write_word mem (m.frames - 1) (right_word packed)))
       (cond (eqb (kind_of w) skip_kind)
-      (goes record { returning = true; at = m.at + skip; end = m.end; frames = m.frames - 1; forms = m.forms; kept = m.kept; steps = m.steps; value = m.value } mem)
+      (goes record m { returning = true; at = m.at + skip; frames = m.frames - 1 } mem)
       (cond (eqb (kind_of w) right_kind)
       (take_right budget limit mem m (apply (value_in (held_function w)) m.value))
       (cond (eqb (kind_of w) node_kind) (goes (turned m) (write_word mem (m.frames - 1) (parameter_word (held_attribute w) packed)))

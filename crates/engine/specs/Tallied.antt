@@ -1,6 +1,6 @@
 -- The tally of a run under way (F-2 of document 02): the row of the step that is due, and what the rows stand for.
 use Rattle.std.specs.Prelude.{cond, List, ◌≡◌, ℕ, ◌+◌, ◌-◌, ◌/◌, ◌≤◌, ◌<◌, eqb, length, get_or, set}
-use Rattle.std.proofs.Math.Option.{Option, none, some}
+use Rattle.std.specs.Prelude.{Option, None as none, Some as some, Result, Ok, Err}
 use Rattle.saiga.specs.Limits.{entry_width, tally_rows, applications_row, conditions_row}
 use Rattle.saiga.specs.Sheet.{context}
 use Rattle.saiga.specs.Caching.{Counted}
@@ -12,8 +12,7 @@ use Rattle.engine.specs.Decode.{sheet_of, plain_frame}
 use Rattle.engine.specs.Steps.{Memory}
 use Rattle.engine.specs.Represents.{machine_in}
 use Rattle.engine.specs.declared.Registers.{Registers}
-use Rattle.engine.specs.declared.Step.{Step}
-use Rattle.engine.specs.declared.Step.TheVariants.{Goes, Waits, Finishes, Stops}
+use Rattle.engine.specs.declared.Halt.{Halt}
 
 -- ---- The row of the step that is due
 
@@ -43,11 +42,9 @@ counted_in none rows = rows
 counted_in (some i) rows = set rows i (get_or rows i 0 + 1)
 
 -- The rows after a move of the code: a step that is not taken is in none.
-unfoldable pub rows_after : Step → Option ℕ → List ℕ → List ℕ
-rows_after (Goes m) row rows = counted_in row rows
-rows_after Waits row rows = rows
-rows_after Finishes row rows = rows
-rows_after (Stops number) row rows = rows
+unfoldable pub rows_after : Result Registers Halt → Option ℕ → List ℕ → List ℕ
+rows_after (Ok m) row rows = counted_in row rows
+rows_after (Err h) row rows = rows
 
 -- The rows of a tally, none of which is larger than the bound.
 pub record RowsWithin (bound : ℕ) (rows : List ℕ) : Type 0 where

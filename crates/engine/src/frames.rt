@@ -1,50 +1,67 @@
 // A frame in a word: its kind, and eight times what it holds (specs/FrameWords.antt); and the place of an open form.
-ghost use Rattle.std.specs.Prelude.{◌≡◌, ◌<◌};
+ghost use Rattle.std.specs.Prelude.{◌≡◌, ◌+◌, ◌*◌, ◌^◌, ◌<◌};
 ghost use Rattle.saiga.specs.Limits.{attribute_limit, depth_limit};
 ghost use Rattle.values.specs.Packed.{packed_limit};
-ghost use Rattle.engine.specs.FrameWords.{kind_of, right_word, held_function, node_word, held_attribute, parameter_word, held_node, forward_word};
+ghost use Rattle.engine.specs.FrameWords.{kind_number, kind_of, held_function, held_attribute, parameter_word, held_node};
 ghost use Rattle.engine.specs.Decode.{form_place};
 
 use saiga::limits::ATTRIBUTE_LIMIT;
 
-// IF waits for its condition, an application for its function.
-pub const ON_IF: u64 = 0;
+// What a frame waits for: IF its condition; an application its function; IF that has taken its first branch, to pass over the second; an
+// application its argument; an attribute its node, and its parameter; a form its value; a forward its node.
+#[derive(Clone, Copy)]
+pub enum Kind {
+    If,
+    Left,
+    Skip,
+    Right,
+    Node,
+    Parameter,
+    Form,
+    Forward,
+}
 
-pub const ON_LEFT: u64 = 1;
+// The words of the frames that hold nothing.
+pub const ON_IF: u64 = Kind::If as u64;
 
-// IF has taken its first branch; the second is passed over.
-pub const ON_SKIP: u64 = 2;
+pub const ON_LEFT: u64 = Kind::Left as u64;
 
-// An application waits for its argument, an attribute for its node and for its parameter, a form for its value, a forward for its node.
-pub const ON_RIGHT: u64 = 3;
+pub const ON_SKIP: u64 = Kind::Skip as u64;
 
-pub const ON_NODE: u64 = 4;
-
-pub const ON_PARAMETER: u64 = 5;
-
-pub const ON_FORM: u64 = 6;
-
-pub const ON_FORWARD: u64 = 7;
+pub const ON_FORM: u64 = Kind::Form as u64;
 
 // As many attributes as there can be: by so much a node stands higher in a word than an attribute.
 pub const ATTRIBUTES: u64 = ATTRIBUTE_LIMIT as u64;
 
 const NODE_AT: u64 = 8 * ATTRIBUTES;
 
-pub fn kind(w: u64) -> u64
-    ensures { result ≡ kind_of w }
-{
-    w % 8
+impl Kind {
+    // The kind of the frame in a word. Every word has one, so there is no error for a TryFrom.
+    pub fn of(w: u64) -> Kind
+        ensures { kind_number result ≡ kind_of w }
+    {
+        match w % 8 {
+            0 => Kind::If,
+            1 => Kind::Left,
+            2 => Kind::Skip,
+            3 => Kind::Right,
+            4 => Kind::Node,
+            5 => Kind::Parameter,
+            6 => Kind::Form,
+            _ => Kind::Forward,
+        }
+    }
+
+    // The word of a frame of this kind that holds a number: the function of an application, packed, or the number of an attribute.
+    pub fn word(self, held: u64) -> u64
+        requires { held < 2 ^ 60 }
+        ensures { result ≡ kind_number self + 8 * held }
+    {
+        self as u64 + 8 * held
+    }
 }
 
 // The function that an application holds, packed.
-pub fn on_right(packed: u64) -> u64
-    requires { packed < packed_limit }
-    ensures { result ≡ right_word packed }
-{
-    ON_RIGHT + 8 * packed
-}
-
 pub fn function(w: u64) -> u64
     ensures { result ≡ held_function w }
 {
@@ -52,20 +69,6 @@ pub fn function(w: u64) -> u64
 }
 
 // The number of an attribute.
-pub fn on_node(a: u64) -> u64
-    requires { a < 256 }
-    ensures { result ≡ node_word a }
-{
-    ON_NODE + 8 * a
-}
-
-pub fn on_forward(a: u64) -> u64
-    requires { a < attribute_limit }
-    ensures { result ≡ forward_word a }
-{
-    ON_FORWARD + 8 * a
-}
-
 pub fn attribute(w: u64) -> u64
     ensures { (result ≡ held_attribute w) × (result < attribute_limit) }
 {
@@ -77,7 +80,7 @@ pub fn on_parameter(a: u64, packed: u64) -> u64
     requires { (a < attribute_limit) × (packed < packed_limit) }
     ensures { result ≡ parameter_word a packed }
 {
-    ON_PARAMETER + 8 * (a + ATTRIBUTES * packed)
+    Kind::Parameter.word(a + ATTRIBUTES * packed)
 }
 
 pub fn node(w: u64) -> u64

@@ -1,4 +1,5 @@
 -- Notes: what a reader leaves is noted, and what is noted behind an expression that is read or passed over.
+use Rattle.std.specs.Prelude.{Option, None, Some as some}
 use mathlib.Core.List.{List, [], ◌∷◌}
 use mathlib.Core.Path.{◌≡◌, refl, sym, ap, ◌∙◌}
 use Prim.Native.Nat.{ℕ, zero, suc, ◌+◌, ◌-◌, ◌≤◌, ◌<◌}
@@ -7,16 +8,18 @@ use native.Mathlib.Omega.{arith}
 use lib.ListN.{length, drop, get_or, set, length-drop}
 use lib.Seq.{drop-drop, get_or-drop, get_or-set_same, get_or-set_other}
 use borrow.Author.Rules.{part_to_end}
-use Rattle.saiga.specs.Values.{Base}
+use Rattle.saiga.specs.declared.Base.{Base}
+use Rattle.saiga.specs.Values.{Ty}
 use Rattle.saiga.specs.Expressions.{Expr, Scope, head_of, reads, read_expr}
 use Rattle.saiga.specs.Types.{Attribute}
-use Rattle.saiga.proofs.Reading.{read-width}
+use Rattle.expressions.specs.declared.types.«Type».{«Type»}
 use Rattle.expressions.specs.declared.Form.{Form}
-use Rattle.expressions.specs.declared.Form.TheVariants.{Malformed, Reads}
+use Rattle.expressions.specs.Types.{typed}
+use Rattle.expressions.specs.Forms.{form_after, shown_form}
 use Rattle.expressions.specs.Widths.{head_width, following}
 use Rattle.expressions.specs.Noted.{WidthOf, front_width, Noted, all_noted, front_noted, Before, Notes, NotesInside, NotesBehind}
 use Rattle.expressions.proofs.Passing.{Passes, none, more, passes-within, Opened, open-head, width_small}
-use Rattle.expressions.proofs.Composites.{FormAt, form-reads, from}
+use Rattle.expressions.proofs.Composites.{FormAt, form-reads, form-taken, from, read-after}
 use Rattle.expressions.proofs.Widths.{width_of}
 
 -- ---- Notes
@@ -44,8 +47,8 @@ noted-then {l} {notes} {v = v} (front_noted {w = w} width rest) behind =
 -- the first expression's width is noted, and what stands behind its head
 pub noted-front : {l notes : List ℕ} {w : ℕ} → Noted l notes w → 0 < w
     → WidthOf l (1 + get_or notes 0 0) × Noted (drop (front_width l) l) (drop (front_width l) notes) (w - front_width l)
-noted-front all_noted some = absurd (omega arith)
-noted-front {l} (front_noted {w = w} width rest) some =
+noted-front all_noted q = absurd (omega arith)
+noted-front {l} (front_noted {w = w} width rest) q =
     let e : front_width l + w - front_width l ≡ w = omega arith in
     (width, rw e rest)
 
@@ -82,17 +85,17 @@ noted-over sc {v = v} row fits r = let e : v + 0 ≡ v = omega arith in rw e at 
 
 module _ (s : Scope) (sig : List Attribute) (p : Base) where
   -- the width of what was read, in every scope
-  form-widths : (l : List ℕ) {w t : ℕ} → FormAt s sig p l (Reads w t) → WidthOf l w
+  form-widths : (l : List ℕ) {w : ℕ} {t : Option Ty} → FormAt s sig p l (some (w, t)) → WidthOf l w
   form-widths l {w} f =
-      let (e, q, n) = form-reads s sig p (read_expr s (length l) l) (sym (f (length l) (omega arith))) in
+      let (e, q, n) = form-reads s sig p (read_expr s (length l) l) (f (length l) (omega arith)) in
       let (width, all) = width_of l in
       rw (all s e w q) at all
 
   -- its head, with what follows
-  form-opened : (l : List ℕ) {w t : ℕ} → FormAt s sig p l (Reads w t) → Opened s (head_of (get_or l 0 0)) 0 l (w + 0)
-  form-opened [] f = absurd (let z = read-width s 0 [] _ _ (form-reads s sig p (read_expr s 0 []) (sym (f 0 (omega arith)))).1 in omega arith)
+  form-opened : (l : List ℕ) {w : ℕ} {t : Option Ty} → FormAt s sig p l (some (w, t)) → Opened s (head_of (get_or l 0 0)) 0 l (w + 0)
+  form-opened [] f = absurd (let b = form-taken s sig p [] f in omega arith)
   form-opened (c ∷ l) {w} f =
-      let (e, q, n) = form-reads s sig p (read_expr s (length (c ∷ l)) (c ∷ l)) (sym (f (length (c ∷ l)) (omega arith))) in
+      let (e, q, n) = form-reads s sig p (read_expr s (length (c ∷ l)) (c ∷ l)) (f (length (c ∷ l)) (omega arith)) in
       open-head (more q none)
 
   -- A head with its operand alone: nothing stands behind it.
@@ -100,25 +103,20 @@ module _ (s : Scope) (sig : List Attribute) (p : Base) where
   nothing-behind none z = refl
   nothing-behind (more r q) z = absurd (omega arith)
 
-  pub operand-notes : (l : List ℕ) (at : ℕ) (notes : List ℕ) (r : Form) → FormAt s sig p l r → following (head_of (get_or l 0 0)) ≡ 0 → NotesBehind l at notes notes r
-  operand-notes l at notes Malformed f z = record { before = λ i h. refl; noted = tt }
-  operand-notes l at notes (Reads w t) f z =
+  operand-notes : (l : List ℕ) (at : ℕ) (notes : List ℕ) (r : Option Form) → FormAt s sig p l (shown_form r) → following (head_of (get_or l 0 0)) ≡ 0
+      → NotesBehind l at notes notes r
+  operand-notes l at notes None f z = record { before = λ i h. refl; noted = tt }
+  operand-notes l at notes (some r) f z =
       let o = form-opened l f in
       let rest : o.rest ≡ 0 = nothing-behind o.passes (omega arith) in
-      let all : w - front_width l ≡ 0 = omega (arith, o.total) in
+      let all : r.width - front_width l ≡ 0 = omega (arith, o.total) in
       record { before = λ i h. refl; noted = rw all all_noted }
 
-  -- b is the head's byte, here and below
-  pub with-operand : (l : List ℕ) (at : ℕ) (notes : List ℕ) (r : Form) (b : ℕ) → get_or l 0 0 ≡ b → following (head_of b) ≡ 0 → FormAt s sig p l r
-      → FormAt s sig p l r × NotesBehind l at notes notes r
-  with-operand l at notes r b is z f = (f, operand-notes l at notes r f (rw is z))
-
   -- The expression's own width is noted, where those inside it are.
-  pub own-notes : (l : List ℕ) (at : ℕ) (notes notes' : List ℕ) (r : Form) {w t : ℕ} → FormAt s sig p l r → NotesBehind l at notes notes' r → r ≡ Reads w t → at < length notes'
-      → Notes l at notes (set notes' at (w - 1)) (Reads w t)
-  own-notes l at notes notes' r {w} {t} f inside e room =
-      let form : FormAt s sig p l (Reads w t) = rw e at f in
-      let behind = rw e at inside in
+  pub own-notes : (l : List ℕ) (at : ℕ) (notes notes' : List ℕ) (r : Form) → FormAt s sig p l (some (r.width, typed r.ty)) → NotesBehind l at notes notes' (some r)
+      → at < length notes' → Notes l at notes (set notes' at (r.width - 1)) (some r)
+  own-notes l at notes notes' r form behind room =
+      let w = r.width in
       let own = set notes' at (w - 1) in
       let h = front_width l in
       let o = form-opened l form in
@@ -146,58 +144,52 @@ both-noted l at m n notes notes₁ notes₂ a first b second = (
       (rw (drop-drop m at notes₂) second),
 )
 
-module _ (l : List ℕ) (at : ℕ) {notes notes₁ : List ℕ} {q : Form} (first : Notes l at notes notes₁ q) where
-  module _ {m t : ℕ} {notes₂ : List ℕ} {r : Form} (e : q ≡ Reads m t) (second : Notes (from l m) (at + m) notes₁ notes₂ r) where
-    first-noted : Noted l (drop at notes₁) m
-    first-noted = rw e at first.noted
+module _ (l : List ℕ) (at : ℕ) {notes notes₁ notes₂ : List ℕ} {q r : Form}
+    (first : Notes l at notes notes₁ (some q)) (second : Notes (from l q.width) (at + q.width) notes₁ notes₂ (some r)) where
+  both : Before at notes notes₂ × Noted l (drop at notes₂) (q.width + r.width)
+  both = both-noted l at q.width r.width notes notes₁ notes₂ first.before first.noted second.before (rw (part_to_end l q.width) at second.noted)
 
-    both : {n u : ℕ} → r ≡ Reads n u → Before at notes notes₂ × Noted l (drop at notes₂) (m + n)
-    both {n} d = both-noted l at m n notes notes₁ notes₂ first.before first-noted second.before (rw (d, part_to_end l m) at second.noted)
+  pub two-noted : {t : Option «Type»} → NotesInside 1 l at notes notes₂ (some (record { width = 1 + q.width + r.width; ty = t }))
+  two-noted =
+      let w : 1 + q.width + r.width - 1 ≡ q.width + r.width = omega arith in
+      record { before = both.0; noted = rw w both.1 }
 
-    pub two-noted : {n u v : ℕ} → r ≡ Reads n u → NotesInside 1 l at notes notes₂ (Reads (1 + m + n) v)
-    two-noted {n} d =
-        let (b, row) = both d in
-        let w : 1 + m + n - 1 ≡ m + n = omega arith in
-        record { before = b; noted = rw w row }
-
-    module _ {n u : ℕ} {notes₃ : List ℕ} {o : Form} (d : r ≡ Reads n u) (third : Notes (from l (m + n)) (at + (m + n)) notes₂ notes₃ o) where
-      pub three-noted : {w x v : ℕ} → o ≡ Reads w x → NotesInside 1 l at notes notes₃ (Reads (1 + m + n + w) v)
-      three-noted {w} b =
-          let (before, row) = both-noted l at (m + n) w notes notes₂ notes₃ (both d).0 (both d).1 third.before (rw (b, part_to_end l (m + n)) at third.noted) in
-          let all : 1 + m + n + w - 1 ≡ m + n + w = omega arith in
-          record { before = before; noted = rw all row }
+  pub three-noted : {notes₃ : List ℕ} {o : Form} {t : Option «Type»} → Notes (from l (q.width + r.width)) (at + (q.width + r.width)) notes₂ notes₃ (some o)
+      → NotesInside 1 l at notes notes₃ (some (record { width = 1 + (q.width + r.width) + o.width; ty = t }))
+  three-noted {notes₃} {o} third =
+      let both_width = q.width + r.width in
+      let (before, row) = both-noted l at both_width o.width notes notes₂ notes₃ both.0 both.1 third.before (rw (part_to_end l both_width) at third.noted) in
+      let all : 1 + (q.width + r.width) + o.width - 1 ≡ q.width + r.width + o.width = omega arith in
+      record { before = before; noted = rw all row }
 
 -- An attribute's number stands before its node and its parameter.
-module _ (l : List ℕ) (at : ℕ) {notes notes₁ : List ℕ} {q : Form} (first : Notes (from l 1) (at + 1) notes notes₁ q) where
-  node-first : Notes (drop 1 l) (at + 1) notes notes₁ q
-  node-first = rw (part_to_end l 1) at first
+pub node-noted : (l : List ℕ) (at : ℕ) {notes notes₁ notes₂ : List ℕ} {q r : Form} {t : Option «Type»} → Notes l at notes notes₁ (some q)
+    → Notes (from l q.width) (at + q.width) notes₁ notes₂ (some r) → NotesInside 2 l at notes notes₂ (some (record { width = 2 + q.width + r.width; ty = t }))
+node-noted l at {q} {r} first second =
+    let w : 2 + q.width + r.width - 2 ≡ q.width + r.width = omega arith in
+    let row = both l at first second in
+    record { before = row.0; noted = rw w row.1 }
 
-  module _ {m t : ℕ} {notes₂ : List ℕ} {r : Form} (e : q ≡ Reads m t) (second : Notes (from l (1 + m)) (at + (1 + m)) notes₁ notes₂ r) where
-    pub node-noted : {n u v : ℕ} → r ≡ Reads n u → NotesInside 2 (drop 1 l) (at + 1) notes notes₂ (Reads (2 + m + n) v)
-    node-noted {n} d =
-        let place : at + (1 + m) ≡ at + 1 + m = omega arith in
-        let (before, row) =
-        both-noted (drop 1 l) (at + 1) m n notes notes₁ notes₂ first.before (rw e at node-first.noted) (rw place at second.before)
-        (rw (d, part_to_end l (1 + m), place, ← drop-drop m 1 l) at second.noted) in
-        let all : 2 + m + n - 2 ≡ m + n = omega arith in
-        record { before = before; noted = rw all row }
+-- ---- The arms of the match on a head
 
--- ---- Behind a head
+abbrev pub Arm : Scope → List Attribute → Base → List ℕ → ℕ → List ℕ → List ℕ → Option Form → Type 0
+Arm s sig p e at notes notes' r = record { formed : FormAt s sig p e (shown_form r); notes_behind : NotesBehind e at notes notes' r }
 
-module _ (e : List ℕ) (at : ℕ) {notes notes' : List ℕ} {r : Form} where
-  behind : (n : ℕ) → front_width e ≡ n → NotesInside n (drop n e) (at + n) notes notes' r → NotesBehind e at notes notes' r
-  behind n is inside = rw is inside
+-- The bytes e are b and then l, and b is the byte of the head.
+module _ (s : Scope) (sig : List Attribute) (p : Base) {e l : List ℕ} {b : ℕ} (at : ℕ) (notes : List ℕ) (r : Option Form) (split : e ≡ b ∷ l) (head : ℕ) (is : b ≡ head)
+    (f : (k : ℕ) → length l ≤ k → shown_form r ≡ form_after s sig p k (head_of head) l) where
+  formed : FormAt s sig p (head ∷ l) (shown_form r)
+  formed = read-after s sig p head l f
 
-  pub if-behind : get_or e 0 0 ≡ 0x20 → NotesInside 1 (from e 1) (at + 1) notes notes' r → NotesBehind e at notes notes' r
-  unfolding head_of
-  if-behind is inside = behind 1 (rw is) (rw (part_to_end e 1) at inside)
+  -- a head with its operand alone
+  pub operand-arm : following (head_of head) ≡ 0 → Arm s sig p e at notes notes r
+  operand-arm z = rw (split, is) (record { formed = formed; notes_behind = operand-notes s sig p (head ∷ l) at notes r formed z })
 
-  pub application-behind : get_or e 0 0 ≡ 0x21 → NotesInside 1 (from e 1) (at + 1) notes notes' r → NotesBehind e at notes notes' r
-  unfolding head_of
-  application-behind is inside = behind 1 (rw is) (rw (part_to_end e 1) at inside)
+  -- one that expressions follow at once, and an attribute's, whose number stands between
+  pub inner-arm : {notes' : List ℕ} → head_width (head_of head) ≡ 1 → NotesInside 1 l (at + 1) notes notes' r → Arm s sig p e at notes notes' r
+  inner-arm w inside = rw (split, is) (record { formed = formed; notes_behind = rw w inside })
 
-  pub attribute-behind : get_or e 0 0 ≡ 0x22 → NotesInside 2 (drop 1 (from e 1)) (at + 1 + 1) notes notes' r → NotesBehind e at notes notes' r
-  unfolding head_of
-  attribute-behind is inside =
+  pub attribute-arm : {notes' : List ℕ} → head_width (head_of head) ≡ 2 → NotesInside 2 (drop 1 l) (at + 1 + 1) notes notes' r → Arm s sig p e at notes notes' r
+  attribute-arm w inside =
       let place : at + 1 + 1 ≡ at + 2 = omega arith in
-      behind 2 (rw is) (rw (part_to_end e 1, drop-drop 1 1 e, place) at inside)
+      rw (split, is) (record { formed = formed; notes_behind = rw (w, ← place) inside })

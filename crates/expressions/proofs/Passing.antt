@@ -7,7 +7,7 @@ use native.Mathlib.Omega.{arith}
 use lib.Dec.{lit<}
 use lib.ListN.{length, drop, get_or, length-drop}
 use lib.Seq.{drop-cons, drop-drop}
-use Rattle.saiga.specs.Values.{unit_t, bool_t, int_t, node_t}
+use Rattle.saiga.specs.declared.Base.TheVariants.{Unit as unit_t, Bool as bool_t, Int as int_t, Node as node_t}
 use Rattle.saiga.specs.Expressions.{Expr, Scope, Head, base_literal, function_literal, if_head, application_head, attribute_head, this_head, parameter_head, no_head, head_of, operand_width, Reading, malformed, reads, ◌followed_by◌, whenever, read_operand, read_after, read_expr}
 use Rattle.saiga.proofs.Reading.{read-fuel, read-width}
 use Rattle.expressions.specs.Widths.{head_width, following, shape_of}
@@ -117,6 +117,9 @@ shape-parts h = let small = width_small h in (omega arith, omega arith)
 
 pub shape-moves : (h : Head) {r : ℕ} → r ≡ shape_of h → 0 < r % 8
 shape-moves h e = rw (e, (shape-parts h).0) (width_small h).0
+
+pub head-moves : (h : Head) {bytes : ℕ} → bytes ≡ shape_of h % 8 → 0 < bytes
+head-moves h e = rw e (shape-moves h refl)
 
 -- ---- The loop
 

@@ -1,117 +1,93 @@
 -- A question's form and type, against the definition of a question call.
+use Rattle.std.specs.Prelude.{Option, None as none, Some as some}
+use Rattle.std.proofs.lemmas.Option.{none-some, same_Some}
 use mathlib.Core.Bool.{false}
 use mathlib.Core.List.{List}
-use mathlib.Core.Option.{Option, none, some}
 use mathlib.Core.Path.{◌≡◌, refl, sym, ap, ◌∙◌}
-use Prim.Native.Nat.{ℕ, ◌-◌, ◌≤◌, ◌<◌}
+use Prim.Native.Nat.{ℕ}
 use native.Mathlib.Omega.{arith}
 use lib.ListN.{length}
-use Rattle.saiga.specs.Values.{Base, unit_t, base_code, base_of, Ty, base, ◌⇒◌}
+use Rattle.saiga.specs.declared.Base.{Base}
+use Rattle.saiga.specs.declared.Base.TheVariants.{Unit as unit_t}
+use Rattle.saiga.specs.Values.{Ty, base, ◌⇒◌}
 use Rattle.saiga.specs.Expressions.{Expr, Whole, no_expression, expression, read_whole}
 use Rattle.saiga.specs.Types.{infer}
-use Rattle.saiga.specs.Sheet.{Sheet, node_count, refused◌at_place◌, accepted, question_scope}
+use Rattle.saiga.specs.Sheet.{Sheet, node_count, Checked, refused◌at_place◌, accepted, question_scope}
 use Rattle.saiga.specs.Ask.{of_base_type, check_type, check_question}
-use Rattle.expressions.specs.declared.Formed.{Formed}
-use Rattle.expressions.specs.declared.Formed.TheVariants.{NoExpression, Expression}
-use Rattle.expressions.specs.declared.QuestionCheck.{QuestionCheck}
-use Rattle.expressions.specs.declared.QuestionCheck.TheVariants.{Refused, Accepted}
-use Rattle.expressions.specs.Forms.{type_number, inferred_number, scope_of, formed_of, inferred_code, question_of}
+use Rattle.std.specs.Option.{ok_or}
+use Rattle.saiga.specs.declared.stops.Stop.TheVariants.{QuestionType}
+use Rattle.saiga.specs.declared.stops.Refusal.{Refusal}
+use Rattle.saiga.specs.Stops.{checked_of}
+use Rattle.expressions.specs.Types.{base_type_in}
+use Rattle.expressions.specs.Forms.{scope_of, formed_of, base_in, question_of}
 use Rattle.values.specs.Layout.{attributes_in}
-use Rattle.expressions.proofs.TypeNumbers.{base-small, number-positive}
-use Rattle.values.proofs.Declared.{attributes-count}
+use Rattle.values.proofs.Attributes.{attributes-count}
 
 -- ---- What the code answers
 
 -- the sheet's scope of a question, as the code has it
-scope-is : (types : List ℕ) (attributes nodes : ℕ) (s : Sheet) → s.attributes ≡ attributes_in types attributes → node_count s ≡ nodes
+scope-is : (sheet : List ℕ) (attributes nodes : ℕ) (s : Sheet) → s.attributes ≡ attributes_in sheet attributes → node_count s ≡ nodes
     → question_scope s ≡ scope_of nodes attributes false false
 unfolding question_scope
-scope-is types attributes nodes s a n = let m = ap length a ∙ attributes-count types attributes in cc
+scope-is sheet attributes nodes s a n = let m = ap length a ∙ attributes-count sheet attributes in cc
 
-module _ (types : List ℕ) (attributes nodes : ℕ) (question : List ℕ) {r : Formed}
-    (whole : r ≡ formed_of (attributes_in types attributes) (base_of 0) (read_whole (scope_of nodes attributes false false) question))
-    (s : Sheet) (a : s.attributes ≡ attributes_in types attributes) (n : node_count s ≡ nodes) where
-  formed : r ≡ formed_of s.attributes unit_t (read_whole (question_scope s) question)
-  unfolding base_of
-  formed = rw (scope-is types attributes nodes s a n, a) whole
+module _ (sheet : List ℕ) (attributes nodes : ℕ) (question : List ℕ) (s : Sheet) (a : s.attributes ≡ attributes_in sheet attributes) (n : node_count s ≡ nodes) where
+  abbrev whole : Option (Option Ty)
+  whole = formed_of (attributes_in sheet attributes) unit_t (read_whole (scope_of nodes attributes false false) question)
 
-  pub question-none : r ≡ NoExpression → Refused 12 ≡ question_of s.attributes (check_question s question)
-  unfolding check_question formed_of check_type question_of
-  question-none h = go (read_whole (question_scope s) question) (sym formed ∙ h)
+  formed : {r : Option (Option Ty)} → r ≡ whole → r ≡ formed_of s.attributes unit_t (read_whole (question_scope s) question)
+  formed h = rw (scope-is sheet attributes nodes s a n, a) h
+
+  pub question-none : none ≡ whole → refused 12 at_place 0 ≡ question_of s.attributes (check_question s question)
+  unfolding check_question check_type formed_of
+  question-none h = go (read_whole (question_scope s) question) (formed h)
     where
-      go : (W : Whole) → formed_of s.attributes unit_t W ≡ NoExpression → Refused 12 ≡ question_of s.attributes (check_type s W)
-      go no_expression q = refl
-      go (expression e) q = absurd (let z : ◌≡◌ {A = ℕ} 0 1 = cc in omega arith)
+      go : (W : Whole) → none ≡ formed_of s.attributes unit_t W → refused 12 at_place 0 ≡ question_of s.attributes (check_type s W)
+      go no_expression h = refl
+      go (expression e) h = absurd (none-some _ h)
 
-  -- what is answered of an expression, by its type
-  typed : {t : ℕ} (q : QuestionCheck) → r ≡ Expression t
-      → ((e : Expr) (T : Option Ty) → infer s.attributes unit_t e ≡ T → t ≡ inferred_number T → q ≡ question_of s.attributes (of_base_type T e))
-      → q ≡ question_of s.attributes (check_question s question)
-  unfolding check_question formed_of check_type
-  typed {t} q h k = go (read_whole (question_scope s) question) (sym formed ∙ h)
+  -- of an expression its base type, if it has one, or the stop at place 0
+  pub question-typed : {T : Option Ty} (r : Refusal) → some T ≡ whole → r.stop ≡ QuestionType → r.place ≡ 0
+      → checked_of (ok_or (base_type_in T) r) ≡ question_of s.attributes (check_question s question)
+  unfolding check_question check_type of_base_type formed_of base_in
+  question-typed {T} r h stop place = go (read_whole (question_scope s) question) (formed h)
     where
-      go : (W : Whole) → formed_of s.attributes unit_t W ≡ Expression t → q ≡ question_of s.attributes (check_type s W)
-      go no_expression b = absurd (let z : ◌≡◌ {A = ℕ} 0 1 = cc in omega arith)
-      go (expression e) b = k e _ refl (cc)
+      by-type : (e : Expr) (T : Option Ty) → T ≡ infer s.attributes unit_t e → checked_of (ok_or (base_type_in T) r) ≡ question_of s.attributes (of_base_type T e)
+      by-type e none q = rw (stop, place)
+      by-type e (some (base B)) q = rw (← q)
+      by-type e (some (B ⇒ T)) q = rw (stop, place)
 
-  pub question-untyped : {t : ℕ} → r ≡ Expression t → t ≡ 0 → Refused 13 ≡ question_of s.attributes (check_question s question)
-  unfolding inferred_number type_number of_base_type question_of
-  question-untyped {t} h z = typed (Refused 13) h go
-    where
-      go : (e : Expr) (T : Option Ty) → infer s.attributes unit_t e ≡ T → t ≡ inferred_number T → Refused 13 ≡ question_of s.attributes (of_base_type T e)
-      go e none q m = refl
-      go e (some (base B)) q m = absurd (omega arith)
-      go e (some (B ⇒ T)) q m = refl
-
-  pub question-of-function : {t : ℕ} → r ≡ Expression t → 4 < t → Refused 13 ≡ question_of s.attributes (check_question s question)
-  unfolding inferred_number type_number of_base_type question_of
-  question-of-function {t} h l = typed (Refused 13) h go
-    where
-      go : (e : Expr) (T : Option Ty) → infer s.attributes unit_t e ≡ T → t ≡ inferred_number T → Refused 13 ≡ question_of s.attributes (of_base_type T e)
-      go e none q m = refl
-      go e (some (base B)) q m = absurd (omega (arith, base-small B))
-      go e (some (B ⇒ T)) q m = refl
-
-  pub question-of-base : {t : ℕ} → r ≡ Expression t → (t ≡ 0 → ⊥) → t ≤ 4 → Accepted (t - 1) ≡ question_of s.attributes (check_question s question)
-  unfolding inferred_number type_number of_base_type question_of inferred_code
-  question-of-base {t} h z l = typed (Accepted (t - 1)) h go
-    where
-      go : (e : Expr) (T : Option Ty) → infer s.attributes unit_t e ≡ T → t ≡ inferred_number T
-          → Accepted (t - 1) ≡ question_of s.attributes (of_base_type T e)
-      go e none q m = absurd (z m)
-      go e (some (base B)) q m = rw q (ap Accepted (omega arith))
-      go e (some (B ⇒ T)) q m = absurd (omega (arith, number-positive T))
+      go : (W : Whole) → some T ≡ formed_of s.attributes unit_t W → checked_of (ok_or (base_type_in T) r) ≡ question_of s.attributes (check_type s W)
+      go no_expression h = absurd (none-some _ (sym h))
+      go (expression e) h = rw (← same_Some _ _ h) (by-type e T (same_Some _ _ h))
 
 -- ---- What a caller learns
 
--- a refused question stops with this number at place 0
-pub question-refused : (s : Sheet) (question : List ℕ) {number : ℕ} → question_of s.attributes (check_question s question) ≡ Refused number
-    → check_question s question ≡ refused number at_place 0
-unfolding check_question check_type of_base_type question_of
-question-refused s question {number} = go (read_whole (question_scope s) question)
+-- a refused question stops with this number, at this place
+pub question-refused : (s : Sheet) (question : List ℕ) {number place : ℕ}
+    → question_of s.attributes (check_question s question) ≡ refused number at_place place → check_question s question ≡ refused number at_place place
+question-refused s question {number} {place} = go (check_question s question)
   where
-    by-type : (e : Expr) (T : Option Ty) → question_of s.attributes (of_base_type T e) ≡ Refused number → of_base_type T e ≡ refused number at_place 0
-    by-type e none h = cc
-    by-type e (some (base B)) h = cc
-    by-type e (some (B ⇒ T)) h = cc
+    go : (r : Checked Expr) → question_of s.attributes r ≡ refused number at_place place → r ≡ refused number at_place place
+    go (refused number at_place place) h = cc
+    go (accepted e) h = cc
 
-    go : (W : Whole) → question_of s.attributes (check_type s W) ≡ Refused number → check_type s W ≡ refused number at_place 0
-    go no_expression h = cc
-    go (expression e) h = by-type e (infer s.attributes unit_t e) h
+refused-accepted : {A : Type 0} {number place : ℕ} {x : A} → (refused number at_place place) ≡ accepted x → ⊥
+refused-accepted h = let z : ◌≡◌ {A = ℕ} 0 1 = cc in omega arith
 
--- an accepted question is an expression of the base type with this code
-pub question-accepted : (s : Sheet) (question : List ℕ) {code : ℕ} → question_of s.attributes (check_question s question) ≡ Accepted code
-    → (e : Expr) × (B : Base) × (check_question s question ≡ accepted e) × (infer s.attributes unit_t e ≡ some (base B)) × (code ≡ base_code B)
-unfolding check_question check_type of_base_type question_of inferred_code
-question-accepted s question {code} = go (read_whole (question_scope s) question)
+-- an accepted question is an expression of this base type
+pub question-accepted : (s : Sheet) (question : List ℕ) {B : Base} → question_of s.attributes (check_question s question) ≡ accepted B
+    → (e : Expr) × (check_question s question ≡ accepted e) × (infer s.attributes unit_t e ≡ some (base B))
+unfolding check_question check_type of_base_type base_in
+question-accepted s question {B} = go (read_whole (question_scope s) question)
   where
-    by-type : (e : Expr) (T : Option Ty) → infer s.attributes unit_t e ≡ T → question_of s.attributes (of_base_type T e) ≡ Accepted code
-        → (d : Expr) × (B : Base) × (of_base_type T e ≡ accepted d) × (infer s.attributes unit_t d ≡ some (base B)) × (code ≡ base_code B)
-    by-type e none q h = absurd (let z : ◌≡◌ {A = ℕ} 0 1 = cc in omega arith)
-    by-type e (some (base B)) q h = (e, B, refl, q, let m = ap inferred_code q in cc)
-    by-type e (some (B ⇒ T)) q h = absurd (let z : ◌≡◌ {A = ℕ} 0 1 = cc in omega arith)
+    by-type : (e : Expr) (T : Option Ty) → infer s.attributes unit_t e ≡ T → question_of s.attributes (of_base_type T e) ≡ accepted B
+        → (d : Expr) × (of_base_type T e ≡ accepted d) × (infer s.attributes unit_t d ≡ some (base B))
+    by-type e none q h = absurd (refused-accepted h)
+    by-type e (some (base C)) q h = (e, refl, let m = ap base_in q in cc)
+    by-type e (some (C ⇒ T)) q h = absurd (refused-accepted h)
 
-    go : (W : Whole) → question_of s.attributes (check_type s W) ≡ Accepted code
-        → (e : Expr) × (B : Base) × (check_type s W ≡ accepted e) × (infer s.attributes unit_t e ≡ some (base B)) × (code ≡ base_code B)
-    go no_expression h = absurd (let z : ◌≡◌ {A = ℕ} 0 1 = cc in omega arith)
+    go : (W : Whole) → question_of s.attributes (check_type s W) ≡ accepted B
+        → (e : Expr) × (check_type s W ≡ accepted e) × (infer s.attributes unit_t e ≡ some (base B))
+    go no_expression h = absurd (refused-accepted h)
     go (expression e) h = by-type e (infer s.attributes unit_t e) refl h

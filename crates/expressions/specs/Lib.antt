@@ -1,3 +1,4 @@
 pub mod Forms
 pub mod Noted
+pub mod Types
 pub mod Widths

@@ -1,15 +1,17 @@
--- Numbers in decimal: by their last digit, and how many digits they have.
-use mathlib.Core.Bool.{Bool, true, false, true≢false}
+-- Numbers in decimal: by their last digit, and as the kit prints them.
+use mathlib.Core.Bool.{Bool, true, false}
 use mathlib.Core.List.{List, [], ◌∷◌, ◌++◌}
-use mathlib.Core.Path.{◌≡◌, refl, ap}
+use mathlib.Core.Path.{◌≡◌, refl, sym, ap}
 use Prim.Native.Nat.{ℕ, zero, suc, ◌+◌, ◌/◌, ◌%◌, ◌^◌, ◌≤◌, ◌<◌}
-use native.Mathlib.Nat.{pow-suc, not-suc-le-zero}
 use native.Mathlib.Omega.{arith}
 use lib.Dec.{ltb}
-use lib.IntN.{ℤ, pos, negsuc, nat_abs}
-use lib.Signed.{lt_z}
-use lib.ListN.{length, length-append}
+use lib.IntN.{ℤ, pos, negsuc}
 use borrow.Author.Tests.{ltb-true, ltb-false, lt-ltb, le-ltb}
+use mir.Syntax.{w64}
+use mir.Val.{SFits, of_z, to_z}
+use mir.Facts.{to_z-of_z}
+use Rattle.std.specs.Fmt.{decimal as printed_decimal, signed_decimal as printed_signed}
+use Rattle.std.proofs.lemmas.Fmt.{AppendsLastDigit, decimal_from_appends, length-decimal-le_succ}
 use Rattle.lines.specs.Lines.{decimal_within, decimal, signed_decimal}
 
 -- a bound above the number is as good as any other
@@ -45,33 +47,21 @@ by_digits P digit more n = below (suc n) n (omega arith)
         go true e shorter = digit m (ltb-true m 10 e)
         go false e shorter = let l = ltb-false m 10 e in more m l (shorter (omega arith))
 
--- a number below 10 ^ k has at most k digits
-pub decimal-length : (k n : ℕ) → n < 10 ^ suc k → length (decimal n) ≤ suc k
-decimal-length zero n h = rw (decimal_digit n h) (omega arith)
-decimal-length (suc k) n h = go (ltb n 10) refl (decimal-length k (n / 10))
-  where
-    go : (t : Bool) → ltb n 10 ≡ t → (n / 10 < 10 ^ suc k → length (decimal (n / 10)) ≤ suc k) → length (decimal n) ≤ suc (suc k)
-    go true e shorter = rw (decimal_digit n (ltb-true n 10 e)) (omega arith)
-    go false e shorter =
-        let s = shorter (omega (arith, pow-suc 10 (suc k))) in
-        rw (decimal-more n (ltb-false n 10 e), length-append) (omega arith)
+-- ---- Numbers as the kit prints them
 
-pub digit-length : (n : ℕ) → n < 10 → length (decimal n) ≡ 1
-digit-length n h = rw (decimal_digit n h)
+appends : AppendsLastDigit decimal_within
+unfolding decimal_within
+appends = record { one = λ k n h. rw (lt-ltb n 10 h); more = λ k n h. rw (le-ltb n 10 h) }
 
-pub more-length : (n : ℕ) → 10 ≤ n → length (decimal n) ≡ length (decimal (n / 10)) + 1
-more-length n h = rw (decimal-more n h) (length-append (decimal (n / 10)) ((48 + n % 10) ∷ []))
+pub decimal_printed : (n : ℕ) → n < 2 ^ 64 → printed_decimal n ≡ decimal n
+unfolding decimal
+decimal_printed n h = sym (decimal_from_appends decimal_within appends (suc n) n h (omega (arith, length-decimal-le_succ n h)))
 
--- an unsigned number of 64 bits has at most 20 digits
-pub word-length : (n : ℕ) → n < 2 ^ 64 → length (decimal n) ≤ 20
-word-length n h = decimal-length 19 n (omega arith)
-
-pub negative-decimal : (z : ℤ) → lt_z z (pos 0) ≡ true → signed_decimal z ≡ 45 ∷ decimal (nat_abs z)
+signed_same : (z : ℤ) → SFits w64 z → printed_signed z ≡ signed_decimal z
 unfolding signed_decimal
-negative-decimal (pos n) t = absurd (not-suc-le-zero (ltb-true n 0 t))
-negative-decimal (negsuc n) t = refl
+signed_same (pos n) h = decimal_printed n (omega arith)
+signed_same (negsuc n) h = ap (λ (l : List ℕ). 45 ∷ l) (decimal_printed (suc n) (omega arith))
 
-pub other-decimal : (z : ℤ) → lt_z z (pos 0) ≡ false → signed_decimal z ≡ decimal (nat_abs z)
-unfolding signed_decimal
-other-decimal (pos n) t = refl
-other-decimal (negsuc n) t = absurd (true≢false t)
+-- as the code has it, read from its bits
+pub signed_printed : (z : ℤ) → SFits w64 z → printed_signed (to_z w64 (of_z w64 z)) ≡ signed_decimal z
+signed_printed z h = rw (to_z-of_z h) (signed_same z h)

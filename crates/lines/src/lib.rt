@@ -2,94 +2,110 @@
 // other lines: text and numbers.
 #![tactic(auto)]
 
-ghost use Rattle.std.specs.Prelude.{[], ◌∷◌, ◌++◌, ◌≡◌, ◌+◌, ◌≤◌, ◌<◌, nat_abs, length};
-ghost use Rattle.std.proofs.lemmas.List.Edits.{sets};
+ghost use Rattle.std.specs.Prelude.{[], ◌∷◌, ◌++◌, ◌≡◌, ◌+◌, ◌≤◌, length};
 ghost use Rattle.lines.specs.Lines.{decimal, signed_decimal, line_of};
-ghost use Rattle.lines.specs.Written.{Written};
 
-fn glyph(d: u64) -> u8
-    requires { d < 10 }
-    ensures { result ≡ 48 + d }
-{
-    48 + d as u8
+use itoa::Buffer;
+use std::marker::Model;
+
+// A line of at most 128 bytes.
+#[derive(Drop)]
+pub struct Line {
+    bytes: [u8; 128],
+    len: usize,
 }
 
-// A number's digits are written at a place, and the place after them is answered.
-fn digits(n: u64, out: &mut [u8; 128], at: usize) -> usize
-    requires { at + length (decimal n) ≤ 128 }
-    ensures { Written out.old at (decimal n) out.new result }
-{
-    if n < 10 {
-        out[at] = glyph(n);
-        return at + 1;
+impl Model for Line {
+    ghost use Rattle.std.specs.Prelude.{List, ℕ, ◌≤◌, take};
+
+    ghost Value = { List ℕ };
+
+    ghost view = { λ l. take l.len l.bytes };
+
+    ghost invariant = { λ l. l.len ≤ 128 };
+}
+
+impl Line {
+    pub fn new() -> Line
+        ensures { result ≡ [] }
+    {
+        Line {
+            bytes: [0; 128],
+            len: 0,
+        }
     }
-    let end = digits(n / 10, out, at);
-    out[end] = glyph(n % 10);
-    end + 1
-}
 
-// Text is written at a place, and the place after it is answered.
-pub fn text(words: &[u8], out: &mut [u8; 128], at: usize) -> usize
-    requires { at + length words.now ≤ 128 }
-    ensures { Written out.old at words.now out.new result }
-{
-    let mut i = 0;
-    while i < words.len() {
-        out[at + i] = words[i];
-        i += 1;
+    pub fn as_bytes(&self) -> &[u8]
+        ensures { result.now ≡ self.now }
+    {
+        &self.bytes[..self.len]
     }
-    at + i
-}
 
-// A number and the byte after it.
-pub fn field(n: u64, mark: u8, out: &mut [u8; 128], at: usize) -> usize
-    requires { at + 21 ≤ 128 }
-    ensures written { Written out.old at (decimal n ++ (mark ∷ [])) out.new result }
-    ensures fits { result ≤ at + 21 }
-{
-    let end = digits(n, out, at);
-    out[end] = mark;
-    end + 1
-}
-
-fn magnitude(z: i64) -> u64
-    ensures { result ≡ nat_abs z }
-{
-    if z < 0 { (-1 - z) as u64 + 1 } else { z as u64 }
-}
-
-// A signed number and the byte after it.
-fn signed_field(z: i64, mark: u8, out: &mut [u8; 128], at: usize) -> usize
-    requires { at + 22 ≤ 128 }
-    ensures written { Written out.old at (signed_decimal z ++ (mark ∷ [])) out.new result }
-    ensures fits { result ≤ at + 22 }
-{
-    let n = magnitude(z);
-    if z < 0 {
-        out[at] = b'-';
-        return field(n, mark, out, at + 1);
+    // Text is written at the end.
+    pub fn text(&mut self, words: &[u8])
+        requires { length self.old + length words.now ≤ 128 }
+        ensures { self.new ≡ self.old ++ words.now }
+    {
+        let end = self.len + words.len();
+        self.bytes[self.len..end].copy_from_slice(words);
+        self.len = end;
     }
-    field(n, mark, out, at)
+
+    // A number in decimal is written at the end.
+    #[tactic(auto, using(crate::proofs::Decimals::decimal_printed))]
+    pub fn number(&mut self, n: u64)
+        requires { length self.old + 20 ≤ 128 }
+        ensures written { self.new ≡ self.old ++ decimal n }
+        ensures fits { length self.new ≤ length self.old + 20 }
+    {
+        self.text(Buffer::new().format(n).as_bytes());
+    }
+
+    #[tactic(auto, using(crate::proofs::Decimals::signed_printed))]
+    fn signed_number(&mut self, z: i64)
+        requires { length self.old + 21 ≤ 128 }
+        ensures written { self.new ≡ self.old ++ signed_decimal z }
+        ensures fits { length self.new ≤ length self.old + 21 }
+    {
+        self.text(Buffer::new().format(z).as_bytes());
+    }
+
+    // A number and the byte after it.
+    pub fn field(&mut self, n: u64, mark: u8)
+        requires { length self.old + 21 ≤ 128 }
+        ensures written { self.new ≡ self.old ++ (decimal n ++ (mark ∷ [])) }
+        ensures fits { length self.new ≤ length self.old + 21 }
+    {
+        self.number(n);
+        self.text(&[mark]);
+    }
 }
 
-// The line is written at the front of `out`, whose other bytes stay, and its length is answered.
-pub fn line(
-    number: u64,
-    place: u64,
-    code: u64,
-    value: i64,
-    steps: u64,
-    kept: u64,
-    out: &mut [u8; 128],
-) -> usize
-    ensures size { result ≡ length (line_of record { number = number; place = place; type = code; value = value; steps = steps; kept = kept }) }
-    ensures out_after { out.new ≡ sets out.old 0 (line_of record { number = number; place = place; type = code; value = value; steps = steps; kept = kept }) }
-    ensures fits { result ≤ 127 }
-{
-    let a = field(number, b' ', out, 0);
-    let b = field(place, b' ', out, a);
-    let c = field(code, b' ', out, b);
-    let d = signed_field(value, b' ', out, c);
-    let e = field(steps, b' ', out, d);
-    field(kept, b'\n', out, e)
+// What the line of an answer has, in the order of its fields.
+#[derive(Clone, Copy)]
+pub struct Fields {
+    pub number: u64,
+    pub place: u64,
+    pub code: u64,
+    pub value: i64,
+    pub steps: u64,
+    pub kept: u64,
+}
+
+impl Fields {
+    #[tactic(auto, unfolding(crate::specs::Lines::line_of, crate::specs::Lines::fields))]
+    pub fn line(self) -> Line
+        ensures value { result ≡ line_of record { number = self.number; place = self.place; type = self.code; value = self.value; steps = self.steps; kept = self.kept } }
+        ensures fits { length result ≤ 127 }
+    {
+        let mut line = Line::new();
+        line.field(self.number, b' ');
+        line.field(self.place, b' ');
+        line.field(self.code, b' ');
+        line.signed_number(self.value);
+        line.text(b" ");
+        line.field(self.steps, b' ');
+        line.field(self.kept, b'\n');
+        line
+    }
 }

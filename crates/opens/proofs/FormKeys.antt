@@ -1,5 +1,6 @@
 -- Which of the open forms have a key.
-use mathlib.Core.Bool.{Bool, true, false, ◌||◌, or-true, true≢false}
+use mathlib.Core.Bool.{Bool, true, false, ◌&&◌, ◌||◌, or-true, true≢false}
+use Rattle.std.proofs.Math.Bool.{and_assoc}
 use mathlib.Core.List.{List}
 use mathlib.Core.Path.{◌≡◌, refl, sym, ◌∙◌, ap}
 use Prim.Native.Nat.{ℕ, zero, suc, ◌+◌, ◌*◌, ◌/◌, ◌%◌, ◌<◌}
@@ -7,7 +8,7 @@ use native.Mathlib.Omega.{arith}
 use lib.Dec.{eqb}
 use lib.ListN.{take, get_or}
 use lib.Seq.{get_or-take}
-use borrow.Author.Tests.{eqb-true, eqb-false, eq-eqb, ne_eqb}
+use borrow.Author.Tests.{eqb-true, eqb-false}
 use Rattle.saiga.specs.Limits.{depth_limit}
 use Rattle.stores.specs.declared.Key.{Key}
 use Rattle.stores.specs.Keys.{same_key}
@@ -57,14 +58,9 @@ module _ (run : List ℕ) (j : ℕ) (q : Key) (few : j < depth_limit) (f : ℕ) 
   word : get_or run (f + 1) 0 ≡ get_or (forms_in run) (4 * j + 1) 0
   word = form-at run (4 * j + 1) (f + 1) (omega (arith, is)) (omega arith)
 
-  pub other-node : (get_or run f 0 / 32 ≡ q.node → ⊥) → false ≡ same_key (form_key (forms_in run) j) q
+  -- The code's test of the three numbers of a key, in 64 bits.
+  pub form-has : {node attribute word' : ℕ} → node ≡ q.node → attribute ≡ q.attribute → word' ≡ q.word
+      → {has : Bool} → has ≡ (eqb (get_or run f 0 / 32) node && eqb (get_or run f 0 % 32) attribute && eqb (get_or run (f + 1) 0) word')
+      → has ≡ same_key (form_key (forms_in run) j) q
   unfolding same_key form_key
-  other-node n = rw (← pair, ne_eqb _ _ n)
-
-  pub other-attribute : get_or run f 0 / 32 ≡ q.node → (get_or run f 0 % 32 ≡ q.attribute → ⊥) → false ≡ same_key (form_key (forms_in run) j) q
-  unfolding same_key form_key
-  other-attribute n a = rw (← pair, eq-eqb _ _ n, ne_eqb _ _ a)
-
-  pub by_word : get_or run f 0 / 32 ≡ q.node → get_or run f 0 % 32 ≡ q.attribute → eqb (get_or run (f + 1) 0) q.word ≡ same_key (form_key (forms_in run) j) q
-  unfolding same_key form_key
-  by_word n a = rw (← pair, ← word, eq-eqb _ _ n, eq-eqb _ _ a)
+  form-has n a w e = e ∙ rw (n, a, w, and_assoc, ← pair, ← word) refl

@@ -2,21 +2,20 @@
 use mathlib.Core.Bool.{Bool, true, false}
 use mathlib.Core.List.{List}
 use mathlib.Core.Path.{◌≡◌, refl, sym, ◌∙◌, ap}
+use Rattle.std.specs.Prelude.{Result, Ok, Err, is_ok}
 use Prim.Native.Nat.{ℕ, suc, ◌+◌, ◌≤◌, ◌<◌}
 use native.Mathlib.Omega.{arith}
 use lib.ListN.{get_or, set}
-use Rattle.saiga.specs.Limits.{entry_limit}
+use Rattle.saiga.specs.Limits.{depth_limit}
 use Rattle.stores.specs.declared.Key.{Key}
 use Rattle.stores.specs.declared.Seen.{Seen}
 use Rattle.stores.specs.declared.Seen.TheVariants.{Empty, Has, Other}
 use Rattle.stores.specs.Keys.{same_key, seen_in}
-use Rattle.stores.specs.Walks.{bucket_of}
-use Rattle.stores.proofs.Walks.{Searching, search-starts, cell-small, sees-none, sees-key, other-below}
+use Rattle.stores.specs.Search.{Cells, Searched}
 use Rattle.engine.specs.Decode.{open_cells, opens_place, forms_in, opens_in}
 use Rattle.engine.specs.OpenKeys.{form_key, key_open}
 use Rattle.engine.proofs.RunMemory.{open_at, words-kept, forms-kept, open-written}
-use Rattle.opens.specs.declared.Opening.TheVariants.{Open, Closed}
-use Rattle.opens.specs.Opened.{place_of, cell_in, counted_in, Opened, is_open_in, Plants}
+use Rattle.opens.specs.Opened.{place_of, cell_in, counted_in, Opened, ClosedAt, Plants}
 use Rattle.opens.proofs.FormKeys.{key-open, key-closed}
 use Rattle.opens.proofs.Cells.{listed_at, cell-not-open, cell-not-here, cell-counts}
 
@@ -70,39 +69,33 @@ module _ (run : List ℕ) (k cell : ℕ) (q : Key) (small : cell < open_cells) w
 
 -- ---- What is answered
 
-module _ (forms opens : List ℕ) (k : ℕ) (o : Opened forms opens k) (q : Key) where
-  abbrev keys_of : ℕ → Key
-  keys_of = form_key forms
+-- One who may look at the cells, and sees there the open forms.
+module _ (forms opens : List ℕ) (k : ℕ) (o : Opened forms opens k) (q : Key) (may : ℕ → Type 0) (sees : ℕ → Seen → Type 0)
+    (open_to : (cell : ℕ) → cell < open_cells → may cell)
+    (shows : (cell : ℕ) (seen : Seen) → sees cell seen → seen ≡ seen_in (form_key forms) q (get_or (counted_in opens k) cell 0)) where
+  abbrev pub open-forms : Cells q may sees
+  open-forms =
+      record {
+        keys = form_key forms;
+        limit = depth_limit;
+        count = k;
+        index = counted_in opens k;
+        trie = o.trie;
+        room = omega arith;
+        open_to = λ cell h. open_to cell (omega (arith, h, o.trie.few));
+        shows = λ cell seen h. shows cell seen;
+      }
 
-  abbrev index : List ℕ
-  index = counted_in opens k
+  module _ (r : Result ℕ ℕ) (found : (c : Cells q may sees) → Searched c.keys c.count c.index q r) where
+    finds : (r : Result ℕ ℕ) → Searched (form_key forms) k (counted_in opens k) q r → (is_ok r ≡ key_open forms k q) × ClosedAt opens k q r
+    finds (Ok j) (below, has) = (sym (key-open forms q k j below has), tt)
+    finds (Err cell) (free, none_has) = (sym (key-closed forms q k none_has), free)
 
-  module _ (cell rest passed : ℕ) (at : Searching keys_of index q cell rest passed) where
-    pub look-cell : cell < open_cells
-    look-cell = omega (arith, o.trie.few, cell-small _ _ k _ o.trie q cell rest passed at)
+    pub finds-open : is_ok r ≡ key_open forms k q
+    finds-open = (finds r (found open-forms)).0
 
-    module _ {seen : Seen} (is : seen ≡ seen_in keys_of q (get_or index cell 0)) where
-      pub sees-closed : seen ≡ Empty → is_open_in (Closed cell) ≡ key_open forms k q
-      unfolding is_open_in
-      sees-closed e = sym (key-closed forms q k (sees-none _ _ k _ o.trie q cell rest passed at is e))
-
-      pub sees-open : (j : ℕ) → seen ≡ Has j → is_open_in Open ≡ key_open forms k q
-      unfolding is_open_in
-      sees-open j e = let (below, has) = sees-key _ _ k _ o.trie q cell rest passed at is j e in sym (key-open forms q k j below has)
-
-      pub other-form : (j : ℕ) → seen ≡ Other j → j < entry_limit
-      other-form j e = omega (arith, other-below _ _ k _ o.trie q cell rest passed at is j e)
-
-  -- and in the bucket
-  module _ (b : ℕ) (bucket : b ≡ bucket_of q) {seen : Seen} (is : seen ≡ seen_in keys_of q (get_or index b 0)) where
-    pub first-closed : seen ≡ Empty → is_open_in (Closed b) ≡ key_open forms k q
-    first-closed e = sees-closed b _ 0 (search-starts _ _ q b bucket) is e
-
-    pub first-open : (j : ℕ) → seen ≡ Has j → is_open_in Open ≡ key_open forms k q
-    first-open j e = sees-open b _ 0 (search-starts _ _ q b bucket) is j e
-
-  pub first-form : (j : ℕ) → seen_in keys_of q (get_or index (bucket_of q) 0) ≡ Other j → j < entry_limit
-  first-form j other = other-form _ _ 0 (search-starts _ _ q _ refl) refl j other
+    pub finds-cell : ClosedAt opens k q r
+    finds-cell = (finds r (found open-forms)).1
 
 -- ---- What is written
 

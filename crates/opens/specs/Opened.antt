@@ -1,13 +1,12 @@
 -- The index of the open forms. It is never cleared, and nothing is taken out of it: a cell counts only if the form that it names is open and was put into
 -- this cell. So the innermost form is out of it once it is closed, and whatever the memory held before is an index of no form.
-use Rattle.std.specs.Prelude.{Bool, true, false, cond, List, [], ◌∷◌, ◌++◌, ◌≡◌, ℕ, zero, suc, ◌+◌, ◌<◌, leb, eqb, length, get_or, set}
+use Rattle.std.specs.Prelude.{cond, List, [], ◌∷◌, ◌++◌, ◌≡◌, ℕ, zero, suc, ◌+◌, ◌<◌, leb, eqb, length, get_or, set}
+use Rattle.std.specs.Prelude.{Result, Ok, Err}
 use Rattle.saiga.specs.Limits.{depth_limit}
 use Rattle.stores.specs.declared.Key.{Key}
 use Rattle.stores.specs.Walks.{Free, Trie}
 use Rattle.engine.specs.Decode.{open_cells, opens_size, words_in, forms_in, opens_in}
 use Rattle.engine.specs.OpenKeys.{form_key}
-use Rattle.opens.specs.declared.Opening.{Opening}
-use Rattle.opens.specs.declared.Opening.TheVariants.{Open, Closed}
 
 -- ---- What its cells count for
 
@@ -44,13 +43,9 @@ FreeFor opens k q cell = Free (counted_in opens k) q cell
 
 -- ---- What the code answers
 
-unfoldable pub is_open_in : Opening → Bool
-is_open_in Open = true
-is_open_in (Closed cell) = false
-
-abbrev pub ClosedAt : List ℕ → ℕ → Key → Opening → Type 0
-ClosedAt opens k q Open = Unit {0}
-ClosedAt opens k q (Closed cell) = FreeFor opens k q cell
+abbrev pub ClosedAt : List ℕ → ℕ → Key → Result ℕ ℕ → Type 0
+ClosedAt opens k q (Ok j) = Unit {0}
+ClosedAt opens k q (Err cell) = FreeFor opens k q cell
 
 -- ---- A form more
 

@@ -38,5 +38,5 @@ turns-cut : {sheet : List ℕ} {k : ℕ} {input : List ℕ} {l : List Answer} {v
 turns-cut none g = absurd (true≢false g)
 turns-cut {sheet} (one_more {input = input} {v = v} chunk t going) g = is-over sheet input v chunk (λ later h. turns-left t going later h) (next v) refl g
 
-pub ran-cut : {sheet : List ℕ} {v : View} {left : ℕ} {written : Bool} (r : Ran sheet v left written) → v.going ≡ false → ends_cut v ≡ cut_short (items r.input)
+pub ran-cut : {sheet : List ℕ} {v : View} {written : Bool} (r : Ran sheet v written) → v.going ≡ false → ends_cut v ≡ cut_short (items r.input)
 ran-cut r over = turns-cut r.turns over

@@ -51,5 +51,5 @@ at_most_two true = omega arith
 at_most_two false = omega arith
 
 -- A run that has used up its turns has read more than 10^19 bytes.
-pub used-up : {sheet : List ℕ} {v : View} {left : ℕ} {written : Bool} (r : Ran sheet v left written) → left ≡ 0 → 10000000000000000000 ≤ length r.input
-used-up {v = v} r none_left = omega (arith, few-turns r.turns, r.counted, at_most_two v.ended, at_most_two (not v.going))
+pub used-up : {sheet : List ℕ} {v : View} {written : Bool} (r : Ran sheet v written) → r.made ≡ 18446744073709551615 → 10000000000000000000 ≤ length r.input
+used-up {v = v} r all_made = omega (arith, few-turns r.turns, at_most_two v.ended, at_most_two (not v.going))

@@ -1,5 +1,4 @@
 pub mod Puts
-pub mod Noticed
 pub mod PreparedEmpty
 pub mod Turns
 pub mod TurnByTurn
@@ -8,3 +7,4 @@ pub mod Few
 pub mod RunPrints
 pub mod CutShort
 pub mod LongSheets
+pub mod Rests

@@ -71,7 +71,7 @@ turns-begun {l = l} t g later h = (_, ap lines (turns-so-far t g later h) ∙ li
 
 -- ---- The run, as its contract has it
 
-module _ {sheet : List ℕ} {v : View} {left : ℕ} {written : Bool} (r : Ran sheet v left written) where
+module _ {sheet : List ℕ} {v : View} {written : Bool} (r : Ran sheet v written) where
   pub ran-printed : v.going ≡ false → lines r.answers ≡ printed sheet r.input
   ran-printed over = turns-printed r.turns over
 
@@ -84,6 +84,6 @@ module _ {sheet : List ℕ} {v : View} {left : ℕ} {written : Bool} (r : Ran sh
 
 -- So the report program prints what document 01 says: a run whose lines were all written, and that read no more than 10^19 bytes, has given
 -- exactly the lines of the input that it took.
-pub run-prints : {sheet : List ℕ} {v : View} {left : ℕ} (r : Ran sheet v left true) → length r.input < 10000000000000000000 → lines r.answers ≡ printed sheet r.input
+pub run-prints : {sheet : List ℕ} {v : View} (r : Ran sheet v true) → length r.input < 10000000000000000000 → lines r.answers ≡ printed sheet r.input
 run-prints r short =
-    ⊎_elim (ran-printed r) (⊎_elim (λ none_left. absurd (omega (arith, used-up r none_left))) (λ unwritten. absurd (true≢false unwritten))) r.over
+    ⊎_elim (ran-printed r) (⊎_elim (λ all_made. absurd (omega (arith, used-up r all_made))) (λ unwritten. absurd (true≢false unwritten))) r.over

@@ -4,53 +4,47 @@ use mathlib.Core.Bool.{Bool, true, false, true≢false, false≢true}
 use mathlib.Core.List.{List, []}
 use mathlib.Core.Logic.{◌⊎◌, ⊎_elim}
 use mathlib.Core.Path.{◌≡◌, refl, sym, ap, subst, ◌∙◌}
-use Prim.Native.Nat.{ℕ, suc, ◌+◌, ◌-◌, ◌<◌}
+use Prim.Native.Nat.{ℕ, ◌+◌, ◌≤◌}
+use native.Mathlib.Numerals.{add-one}
 use native.Mathlib.Omega.{arith}
 use lib.ListN.{length}
 use Rattle.saiga.specs.Limits.{entry_limit}
 use Rattle.saiga.specs.Ask.{lent, Answer}
 use Rattle.saiga.specs.Calls.{empty}
-use Rattle.sheets.specs.declared.SheetCheck.{SheetCheck}
 use Rattle.stream.proofs.Items.{told}
+use Rattle.report.specs.declared.CheckedSheet.{CheckedSheet}
 use Rattle.report.specs.declared.State.{State}
 use Rattle.stream.specs.declared.Next.{Next}
 use Rattle.stream.specs.declared.Next.TheVariants.{Question, Cut, End, More}
 use Rattle.report.specs.Report.{Prepared, View, view_of, chunk_of, next, turned_by, turned, Within, Fetched, Turns, none, one_more, Ran}
 use Rattle.report.proofs.Turns.{view}
 
--- so many turns, with those that are left, are all that the loop may make
-pub record Made (sheet input store : List ℕ) (s : State) (left : ℕ) : Type 0 where
-  pub made : ℕ
+-- so many turns have led here
+pub record Made (sheet input store : List ℕ) (s : State) (made : ℕ) : Type 0 where
   pub read : List ℕ
   pub answers : List Answer
   pub so_far : Turns sheet made read answers (view_of input store s)
-  pub counted : made + left ≡ 18446744073709551615
 
-pub record Running (check : SheetCheck) (sheet index notes input₀ store₀ links₀ input store links line : List ℕ) (s : State) (left : ℕ) : Type 0 where
-  pub prepared : Prepared check sheet index notes store s.kept links
+pub record Running (c : CheckedSheet) (input₀ store₀ links₀ input store links : List ℕ) (s : State) (made : ℕ) : Type 0 where
+  pub prepared : Prepared c store s.kept links
   pub within : Within input s
-  pub turns : Made sheet input store s left
+  pub turns : Made c.sheet.bytes.now input store s made
   pub input-same : length input ≡ length input₀
   pub store_same : length store ≡ length store₀
   pub links-same : length links ≡ length links₀
-  pub line-size : length line ≡ 128
   pub failed-ended : s.failed ≡ true → s.ended ≡ true
 
 -- before the first turn
-made_none : {sheet : List ℕ} (input store : List ℕ) → lent store 0 ≡ empty entry_limit
-    → Made sheet input store record { from = 0; to = 0; came = 0; kept = 0; ended = false; failed = false; going = true; line = 0 } 18446744073709551615
-made_none {sheet} input store e =
-    record {
-      made = 0;
-      read = [];
-      answers = [];
-      so_far = subst (λ m. Turns sheet 0 [] [] (view [] false true m)) (sym e) none;
-      counted = refl;
-    }
+abbrev pub first : State
+first = record { from = 0; to = 0; came = 0; kept = 0; ended = false; failed = false; going = true }
 
-pub running-start : (check : SheetCheck) (sheet index notes input store links line : List ℕ) → Prepared check sheet index notes store 0 links → lent store 0 ≡ empty entry_limit → length line ≡ 128
-    → Running check sheet index notes input store links input store links line record { from = 0; to = 0; came = 0; kept = 0; ended = false; failed = false; going = true; line = 0 } 18446744073709551615
-running-start check sheet index notes input store links line p e size =
+made_none : {sheet : List ℕ} (input store : List ℕ) → lent store 0 ≡ empty entry_limit → Made sheet input store first 0
+made_none {sheet} input store e =
+    record { read = []; answers = []; so_far = subst (λ m. Turns sheet 0 [] [] (view [] false true m)) (sym e) none }
+
+pub running-start : (c : CheckedSheet) (input store links : List ℕ) → Prepared c store 0 links → lent store 0 ≡ empty entry_limit
+    → Running c input store links input store links first 0
+running-start c input store links p e =
     record {
       prepared = p;
       within = (omega arith, omega arith);
@@ -58,29 +52,25 @@ running-start check sheet index notes input store links line p e size =
       input-same = refl;
       store_same = refl;
       links-same = refl;
-      line-size = size;
       failed-ended = λ t. absurd (false≢true t);
     }
 
 -- a read for the next turn keeps the store prepared
-pub still-prepared : {check : SheetCheck} {sheet index notes store links input input' : List ℕ} {s s' : State} → Prepared check sheet index notes store s.kept links
-    → Fetched input input' s s' → Prepared check sheet index notes store s'.kept links
-still-prepared {check} {sheet} {index} {notes} {store} {links} p f = subst (λ k. Prepared check sheet index notes store k links) (sym (ap (λ v. v.lends.kept) (f.same store))) p
+pub still-prepared : {c : CheckedSheet} {store links input input' : List ℕ} {s s' : State} → Prepared c store s.kept links
+    → Fetched input input' s s' → Prepared c store s'.kept links
+still-prepared {c} {store} {links} p f = subst (λ k. Prepared c store k links) (sym (ap (λ v. v.lends.kept) (f.same store))) p
 
 -- one turn more
-pub made_one : {sheet input input' store store' : List ℕ} {s s' r : State} {left : ℕ} → Made sheet input store s left → s.going ≡ true → Fetched input input' s s'
-    → view_of input' store' r ≡ turned sheet (view_of input' store s') (chunk_of input' s') → 0 < left
-    → Made sheet input' store' r (left - 1)
-made_one {sheet} {store = store} {left = left} m going f e some =
+pub made_one : {sheet input input' store store' : List ℕ} {s s' r : State} {made : ℕ} → Made sheet input store s made → s.going ≡ true → Fetched input input' s s'
+    → view_of input' store' r ≡ turned sheet (view_of input' store s') (chunk_of input' s') → Made sheet input' store' r (made + 1)
+made_one {sheet} {store = store} {made = made} m going f e =
     let same = f.same store in
     record {
-      made = suc m.made;
       read = _;
       answers = _;
       so_far =
-          subst (Turns sheet _ _ _) (sym e)
-          (one_more _ (subst (Turns sheet _ _ _) (sym same) m.so_far) (ap (λ v. v.going) same ∙ going));
-      counted = omega (arith, m.counted);
+          rw (← add-one made) at
+          (subst (Turns sheet _ _ _) (sym e) (one_more _ (subst (Turns sheet _ _ _) (sym same) m.so_far) (ap (λ v. v.going) same ∙ going)));
     }
 
 -- a read that failed was the last one
@@ -105,24 +95,23 @@ module _ (sheet input input' store : List ℕ) (s s' : State) (before : s.failed
   failed-last store' r e same t = ap (λ v. v.ended) e ∙ last-by (next seen) refl (sym same ∙ t)
 
 -- a turn, with what was read for it
-pub running-on : {check : SheetCheck} {sheet index notes input₀ store₀ links₀ input store links line : List ℕ} {s : State} {left : ℕ}
-    → Running check sheet index notes input₀ store₀ links₀ input store links line s left → s.going ≡ true → 0 < left
+pub running-on : {c : CheckedSheet} {input₀ store₀ links₀ input store links : List ℕ} {s : State} {made : ℕ}
+    → Running c input₀ store₀ links₀ input store links s made → s.going ≡ true
     → {input' : List ℕ} {s' : State} → Fetched input input' s s' → length input' ≡ length input
-    → {store' links' line' : List ℕ} {r : State} → Prepared check sheet index notes store' r.kept links' → Within input' r
-    → view_of input' store' r ≡ turned sheet (view_of input' store s') (chunk_of input' s') → length line' ≡ 128 → length store' ≡ length store → length links' ≡ length links → r.failed ≡ s'.failed
-    → Running check sheet index notes input₀ store₀ links₀ input' store' links' line' r (left - 1)
-running-on w going some f same {r = r} prepared within view-is size same_Store same-links same-failed =
+    → {store' links' : List ℕ} {r : State} → Prepared c store' r.kept links' → Within input' r
+    → view_of input' store' r ≡ turned c.sheet.bytes.now (view_of input' store s') (chunk_of input' s') → length store' ≡ length store → length links' ≡ length links → r.failed ≡ s'.failed
+    → Running c input₀ store₀ links₀ input' store' links' r (made + 1)
+running-on w going f same {r = r} prepared within view-is same_Store same-links same-failed =
     record {
       prepared = prepared;
       within = within;
-      turns = made_one w.turns going f view-is some;
+      turns = made_one w.turns going f view-is;
       input-same = same ∙ w.input-same;
       store_same = same_Store ∙ w.store_same;
       links-same = same-links ∙ w.links-same;
-      line-size = size;
       failed-ended = failed-last _ _ _ _ _ _ w.failed-ended f _ r view-is same-failed;
     }
 
-pub ran : {sheet input store : List ℕ} {s : State} {left : ℕ} {written : Bool} → Made sheet input store s left
-    → (s.going ≡ false) ⊎ ((left ≡ 0) ⊎ (written ≡ false)) → Ran sheet (view_of input store s) left written
-ran m over = record { made = m.made; input = m.read; answers = m.answers; turns = m.so_far; counted = m.counted; over = over }
+pub ran : {sheet input store : List ℕ} {s : State} {made : ℕ} {written : Bool} → Made sheet input store s made → made ≤ 18446744073709551615
+    → (s.going ≡ false) ⊎ ((made ≡ 18446744073709551615) ⊎ (written ≡ false)) → Ran sheet (view_of input store s) written
+ran m counted over = record { made = _; input = m.read; answers = m.answers; turns = m.so_far; counted = counted; over = over }

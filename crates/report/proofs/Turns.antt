@@ -1,7 +1,7 @@
 -- What a turn leaves, as its contract has it, by what comes next; and where the bytes at hand stand in the buffer.
 use mathlib.Core.Bool.{Bool, true, false}
 use mathlib.Core.List.{List, [], ◌∷◌, ◌++◌, append-nil}
-use mathlib.Core.Path.{◌≡◌, refl, sym, ap, ◌∙◌}
+use mathlib.Core.Path.{◌≡◌, sym, ap, ◌∙◌}
 use Prim.Native.Nat.{ℕ, zero, suc, ◌+◌, ◌-◌, ◌≤◌}
 use native.Mathlib.Omega.{arith}
 use lib.Dec.{eqb}
@@ -9,7 +9,6 @@ use lib.ListN.{length, take, drop, length-drop}
 use lib.Seq.{take-take, drop-drop, length-take-le, take-nil, take-add}
 use Rattle.saiga.specs.Ask.{Lent, lent, ask}
 use Rattle.lines.specs.Lines.{line_of}
-use Rattle.lines.specs.Written.{Line}
 use Rattle.stream.specs.declared.Next.{Next}
 use Rattle.stream.specs.declared.Next.TheVariants.{Question, Cut, End, More}
 use Rattle.stream.specs.Stream.{front}
@@ -41,23 +40,22 @@ module _ (sheet : List ℕ) (v : View) (chunk : List ℕ) where
   unfolding turned_by
   left-more e h d = rw (← e, h, d)
 
-module _ (sheet : List ℕ) (v : View) {buffer : List ℕ} where
-  line-question : {k n : ℕ} → Question n ≡ next v → Line buffer k (line_of (ask sheet v.lends (asks (take n (drop 2 v.hand)))).answer)
-      → Line buffer k (lines (given sheet v))
+module _ (sheet : List ℕ) (v : View) {line : List ℕ} where
+  line-question : {n : ℕ} → Question n ≡ next v → line ≡ line_of (ask sheet v.lends (asks (take n (drop 2 v.hand)))).answer → line ≡ lines (given sheet v)
   unfolding given_by lines
   line-question e l = rw (← e, append-nil) l
 
-  line-cut : {k : ℕ} → Cut ≡ next v → Line buffer k (line_of (ask sheet v.lends (asks [])).answer) → Line buffer k (lines (given sheet v))
+  line-cut : Cut ≡ next v → line ≡ line_of (ask sheet v.lends (asks [])).answer → line ≡ lines (given sheet v)
   unfolding given_by lines
   line-cut e l = rw (← e, append-nil) l
 
-  line-end : End ≡ next v → length buffer ≡ 128 → Line buffer 0 (lines (given sheet v))
+  line-end : End ≡ next v → line ≡ [] → line ≡ lines (given sheet v)
   unfolding given_by lines
-  line-end e size = rw (← e) record { bytes = refl; fits = omega arith; size = size }
+  line-end e l = rw (← e) l
 
-  line-more : More ≡ next v → length buffer ≡ 128 → Line buffer 0 (lines (given sheet v))
+  line-more : More ≡ next v → line ≡ [] → line ≡ lines (given sheet v)
   unfolding given_by lines
-  line-more e size = rw (← e) record { bytes = refl; fits = omega arith; size = size }
+  line-more e l = rw (← e) l
 
 -- ---- In the buffer
 
@@ -128,26 +126,29 @@ module _ (sheet input store : List ℕ) (from to came kept : ℕ) (ended going :
         left-question sheet now chunk question-is (question-rest input from to ordered inside ended k question-is)
         (a ∙ ap (after sheet (lent store kept)) (question-bytes input from to ordered inside ended k question-is))
 
-    pub question-line : (buffer : List ℕ) (m : ℕ) → Line buffer m (line_of (ask sheet (lent store kept) (asks question)).answer) → Line buffer m (lines (given sheet now))
-    question-line buffer m l = line-question sheet now question-is (rw (question-bytes input from to ordered inside ended k question-is) at l)
+    pub question-line : {line : List ℕ} → line ≡ line_of (ask sheet (lent store kept) (asks question)).answer → line ≡ lines (given sheet now)
+    question-line l = line-question sheet now question-is (rw (question-bytes input from to ordered inside ended k question-is) at l)
 
   pub after-cut : (left : List ℕ) (kept' : ℕ) → n ≡ Cut → lent left kept' ≡ after sheet (lent store kept) []
       → view (take (to - from) (drop from input)) ended false (lent left kept') ≡ turned sheet now chunk
   after-cut left kept' told a = left_cut sheet now chunk (sym told ∙ comes) a
 
-  pub cut_line : (buffer : List ℕ) (m : ℕ) → n ≡ Cut → Line buffer m (line_of (ask sheet (lent store kept) (asks [])).answer) → Line buffer m (lines (given sheet now))
-  cut_line buffer m told l = line-cut sheet now (sym told ∙ comes) l
+  pub cut_line : {line : List ℕ} → n ≡ Cut → line ≡ line_of (ask sheet (lent store kept) (asks [])).answer → line ≡ lines (given sheet now)
+  cut_line told l = line-cut sheet now (sym told ∙ comes) l
 
   pub after-end : n ≡ End → view (take (to - from) (drop from input)) ended false (lent store kept) ≡ turned sheet now chunk
   after-end told = left_end sheet now chunk (sym told ∙ comes)
 
-  pub end_line : (buffer : List ℕ) → n ≡ End → length buffer ≡ 128 → Line buffer 0 (lines (given sheet now))
-  end_line buffer told size = line-end sheet now (sym told ∙ comes) size
+  pub end_line : {line : List ℕ} → n ≡ End → line ≡ [] → line ≡ lines (given sheet now)
+  end_line told l = line-end sheet now (sym told ∙ comes) l
 
   pub after_more : n ≡ More → from ≤ to → to + came ≤ length input
       → view (take (to + came - from) (drop from input)) (eqb came 0) true (lent store kept) ≡ turned sheet now chunk
   after_more told ordered within =
       left-more sheet now chunk (sym told ∙ comes) (more-hand input from to ordered came) (more-ended input from to ordered came within)
 
-  pub more-line : (buffer : List ℕ) → n ≡ More → length buffer ≡ 128 → Line buffer 0 (lines (given sheet now))
-  more-line buffer told size = line-more sheet now (sym told ∙ comes) size
+  pub more-line : {line : List ℕ} → n ≡ More → line ≡ [] → line ≡ lines (given sheet now)
+  more-line told l = line-more sheet now (sym told ∙ comes) l
+
+-- what the check of `turn` finds by itself
+pub ruleset turn_laws = (cut_line, after-end, end_line, after_more, more-line)

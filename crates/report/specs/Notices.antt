@@ -1,29 +1,23 @@
 -- Which notices are due after a run of the report program.
-use Rattle.std.specs.Prelude.{Bool, true, false, not, cond, List, [], ◌∷◌, ℕ}
-use Rattle.sheets.specs.declared.SheetCheck.{SheetCheck}
-use Rattle.sheets.specs.declared.SheetCheck.TheVariants.{Refused, Accepted}
+use Rattle.std.specs.Prelude.{Bool, true, false, not, cond, List, [], ◌∷◌, ℕ, Option, Some, None, Result, Ok, Err}
+use Rattle.saiga.specs.declared.stops.Refusal.{Refusal}
+use Rattle.sheets.specs.declared.Counts.{Counts}
 use Rattle.stream.specs.Stream.{Item, question, cut}
 use Rattle.stream.specs.declared.Next.{Next}
 use Rattle.stream.specs.declared.Next.TheVariants.{Question, Cut, End, More}
 use Rattle.notices.specs.declared.Notice.{Notice}
-use Rattle.notices.specs.declared.Notice.TheVariants.{Nothing, SheetMissing, SheetUnreadable, SheetRefused, InputFailed, QuestionCut, LineUnwritten}
-use Rattle.report.specs.declared.system.SheetFile.{SheetFile}
-use Rattle.report.specs.declared.system.SheetFile.TheVariants.{Read, Missing, Unreadable}
+use Rattle.notices.specs.declared.Notice.TheVariants.{SheetMissing, SheetUnreadable, SheetRefused, InputFailed, QuestionCut, LineUnwritten}
+use Rattle.report.specs.declared.system.NoSheet.{NoSheet}
+use Rattle.report.specs.declared.system.NoSheet.TheVariants.{Missing, Unreadable}
 use Rattle.report.specs.declared.telling.Notices.{Notices}
 use Rattle.report.specs.Report.{View, next}
 
--- the bytes that were read of the sheet; "one that cannot be read counts as empty"
-unfoldable pub size_of : SheetFile → ℕ
-size_of (Read n) = n
-size_of Missing = 0
-size_of Unreadable = 0
-
 -- A sheet that was read has the number and place of its check. One that was not has its own line, and none for the stop of an empty sheet.
-unfoldable pub of_sheet : SheetFile → SheetCheck → Notice
-of_sheet Missing check = SheetMissing
-of_sheet Unreadable check = SheetUnreadable
-of_sheet (Read n) (Refused number place) = SheetRefused number place
-of_sheet (Read n) (Accepted attributes nodes) = Nothing
+unfoldable pub of_sheet : Result ℕ NoSheet → Result Counts Refusal → Option Notice
+of_sheet (Err Missing) check = Some SheetMissing
+of_sheet (Err Unreadable) check = Some SheetUnreadable
+of_sheet (Ok n) (Err refusal) = Some (SheetRefused refusal)
+of_sheet (Ok n) (Ok counts) = None
 
 unfoldable pub is_cut : Next → Bool
 is_cut (Question n) = false
@@ -44,11 +38,11 @@ cut_short (cut ∷ l) = true
 
 -- The notices after a run, by what became of the sheet, whether a read of standard input failed, whether the last question is cut, and whether
 -- each line was written: each at most once, in this order.
-unfoldable pub due_after : SheetFile → SheetCheck → Bool → Bool → Bool → Notices
+unfoldable pub due_after : Result ℕ NoSheet → Result Counts Refusal → Bool → Bool → Bool → Notices
 due_after file check failed short written =
     record {
       sheet = of_sheet file check;
-      input = cond failed InputFailed Nothing;
-      question = cond short QuestionCut Nothing;
-      output = cond (not written) LineUnwritten Nothing;
+      input = cond failed (Some InputFailed) None;
+      question = cond short (Some QuestionCut) None;
+      output = cond (not written) (Some LineUnwritten) None;
     }

@@ -1,11 +1,10 @@
 -- What the report program keeps from question to question, and what a turn of its run makes of it (document 01, "The report program").
-use Rattle.std.specs.Prelude.{Bool, true, false, List, [], ◌∷◌, ◌++◌, ◌⊎◌, ◌≡◌, ℕ, suc, ◌+◌, ◌-◌, ◌≤◌, eqb, length, take, drop}
+use Rattle.std.specs.Prelude.{Bool, true, false, List, [], ◌∷◌, ◌++◌, ◌⊎◌, ◌≡◌, ℕ, suc, ◌+◌, ◌-◌, ◌≤◌, eqb, length, take, drop, Ok}
 use Rattle.saiga.specs.Limits.{entry_limit}
 use Rattle.saiga.specs.Ask.{Lent, lent, Answer, ask}
 use Rattle.saiga.specs.Calls.{empty, leaves}
 use Rattle.sheets.specs.Scan.{Checks}
-use Rattle.sheets.specs.declared.SheetCheck.{SheetCheck}
-use Rattle.sheets.specs.declared.SheetCheck.TheVariants.{Accepted}
+use Rattle.sheets.specs.declared.Counts.{Counts}
 use Rattle.calls.specs.Answers.{answer_of}
 use Rattle.calls.specs.Prepared.{NotedSheet, PreparedStore}
 use Rattle.stream.specs.declared.Next.{Next}
@@ -13,22 +12,23 @@ use Rattle.stream.specs.declared.Next.TheVariants.{Question, Cut, End, More}
 use Rattle.stream.specs.Stream.{front}
 use Rattle.stream.specs.Next.{next_of}
 use Rattle.report.specs.Printed.{asks}
+use Rattle.report.specs.declared.CheckedSheet.{CheckedSheet}
 use Rattle.report.specs.declared.State.{State}
 use Rattle.calls.specs.declared.Answer as Declared
 
 -- ---- A question
 
 -- The sheet was checked, with this index and these notes if it was accepted, and then the store was accepted, with its index.
-pub record Prepared (check : SheetCheck) (sheet index notes store : List ℕ) (kept : ℕ) (links : List ℕ) : Type 0 where
-  pub checked : Checks sheet check index
-  pub noted : (attributes nodes : ℕ) → check ≡ Accepted attributes nodes → NotedSheet sheet index notes
-  pub store_ready : (attributes nodes : ℕ) → check ≡ Accepted attributes nodes → PreparedStore sheet store kept links
+pub record Prepared (c : CheckedSheet) (store : List ℕ) (kept : ℕ) (links : List ℕ) : Type 0 where
+  pub checked : Checks c.sheet.bytes.now c.check c.sheet.index.now
+  pub noted : (counts : Counts) → c.check ≡ Ok counts → NotedSheet c.sheet.bytes.now c.sheet.index.now c.sheet.notes.now
+  pub store_ready : (counts : Counts) → c.check ≡ Ok counts → PreparedStore c.sheet.bytes.now store kept links
 
 -- What a question brings, with the budget of 1,000,000, and what it leaves for the next one.
-pub record Put (check : SheetCheck) (sheet index notes question store : List ℕ) (kept : ℕ) (left links : List ℕ) (r : Declared.Answer) : Type 0 where
-  pub answer : answer_of r ≡ (ask sheet (lent store kept) (asks question)).answer
-  pub store_is : left ≡ (ask sheet (lent store kept) (asks question)).store
-  pub prepared : Prepared check sheet index notes left (answer_of r).kept links
+pub record Put (c : CheckedSheet) (question store : List ℕ) (kept : ℕ) (left links : List ℕ) (r : Declared.Answer) : Type 0 where
+  pub answer : answer_of r ≡ (ask c.sheet.bytes.now (lent store kept) (asks question)).answer
+  pub store_is : left ≡ (ask c.sheet.bytes.now (lent store kept) (asks question)).store
+  pub prepared : Prepared c left (answer_of r).kept links
 
 -- what a question leaves of what it is lent
 unfoldable pub after : List ℕ → Lent → List ℕ → Lent
@@ -123,11 +123,11 @@ pub data Turns (sheet : List ℕ) : ℕ → List ℕ → List Answer → View �
   one_more : {k : ℕ} {input : List ℕ} {l : List Answer} {v : View} (chunk : List ℕ) → Turns sheet k input l v → v.going ≡ true
       → Turns sheet (suc k) (input ++ taken v chunk) (l ++ given sheet v) (turned sheet v chunk)
 
--- How a run has ended, with so many turns left of 2^64 - 1: there is no more to do, or no turn is left, or a line was not written.
-pub record Ran (sheet : List ℕ) (v : View) (left : ℕ) (written : Bool) : Type 0 where
+-- How a run has ended, which makes 2^64 - 1 turns at most: there is no more to do, or all turns are made, or a line was not written.
+pub record Ran (sheet : List ℕ) (v : View) (written : Bool) : Type 0 where
   pub made : ℕ
   pub input : List ℕ
   pub answers : List Answer
   pub turns : Turns sheet made input answers v
-  pub counted : made + left ≡ 18446744073709551615
-  pub over : (v.going ≡ false) ⊎ ((left ≡ 0) ⊎ (written ≡ false))
+  pub counted : made ≤ 18446744073709551615
+  pub over : (v.going ≡ false) ⊎ ((made ≡ 18446744073709551615) ⊎ (written ≡ false))

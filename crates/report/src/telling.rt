@@ -1,69 +1,57 @@
 // Which notices are due after a run, and how they are told on standard error, in a line each.
-ghost use Rattle.std.specs.Prelude.{cond, ◌≡◌};
+ghost use Rattle.std.specs.Prelude.{◌≡◌};
 ghost use Rattle.report.specs.Notices.{of_sheet, due_after};
 
 use crate::system;
-use crate::system::SheetFile;
+use crate::system::NoSheet;
 use notices::Notice;
-use sheets::SheetCheck;
+use saiga::stops::Refusal;
+use sheets::Counts;
 use std::io::Stderr;
 
 // The notices of a run, in their order.
-#[derive(Drop)]
+#[derive(Clone, Copy)]
 pub struct Notices {
-    sheet: Notice,
-    input: Notice,
-    question: Notice,
-    output: Notice,
+    sheet: Option<Notice>,
+    input: Option<Notice>,
+    question: Option<Notice>,
+    output: Option<Notice>,
 }
 
 #[tactic(auto, unfolding(crate::specs::Notices::of_sheet))]
-fn of_sheet(file: SheetFile, check: SheetCheck) -> Notice
+fn of_sheet(file: Result<usize, NoSheet>, check: Result<Counts, Refusal>) -> Option<Notice>
     ensures { result ≡ of_sheet file check }
 {
     match file {
-        SheetFile::Missing => Notice::SheetMissing,
-        SheetFile::Unreadable => Notice::SheetUnreadable,
-        SheetFile::Read(_) => match check {
-            SheetCheck::Refused(number, place) => Notice::SheetRefused(number, place),
-            SheetCheck::Accepted(_, _) => Notice::Nothing,
-        },
+        Err(NoSheet::Missing) => Some(Notice::SheetMissing),
+        Err(NoSheet::Unreadable) => Some(Notice::SheetUnreadable),
+        Ok(_) => check.err().map(Notice::SheetRefused),
     }
-}
-
-fn told_if(due: bool, notice: Notice) -> Notice
-    ensures { result ≡ cond due notice Notice.Nothing }
-{
-    if due { notice } else { Notice::Nothing }
 }
 
 // The notices that are due after a run: what became of the sheet, whether a read of standard input failed, whether the last question is cut,
 // and whether each line was written.
 #[tactic(auto, unfolding(crate::specs::Notices::due_after))]
-pub fn due(file: SheetFile, check: SheetCheck, failed: bool, cut: bool, written: bool) -> Notices
+pub fn due(
+    file: Result<usize, NoSheet>,
+    check: Result<Counts, Refusal>,
+    failed: bool,
+    cut: bool,
+    written: bool,
+) -> Notices
     ensures { result ≡ due_after file check failed cut written }
 {
     Notices {
         sheet: of_sheet(file, check),
-        input: told_if(failed, Notice::InputFailed),
-        question: told_if(cut, Notice::QuestionCut),
-        output: told_if(!written, Notice::LineUnwritten),
+        input: failed.then_some(Notice::InputFailed),
+        question: cut.then_some(Notice::QuestionCut),
+        output: (!written).then_some(Notice::LineUnwritten),
     }
 }
 
-fn tell(stderr: Stderr, notice: Notice) {
-    let mut out = [0u8; 128];
-    let n = notices::line(notice, &mut out);
-    system::write_error(stderr, &out[..n]);
-}
-
-pub fn tell_all(stderr: Stderr, notices: Notices) {
-    let sheet = notices.sheet;
-    let input = notices.input;
-    let question = notices.question;
-    let output = notices.output;
-    tell(stderr, sheet);
-    tell(stderr, input);
-    tell(stderr, question);
-    tell(stderr, output);
+pub fn tell_all(stderr: Stderr, due: Notices) {
+    let in_order = [due.sheet, due.input, due.question, due.output];
+    for notice in in_order.into_iter().flatten() {
+        system::write_error(stderr, notice.line().as_bytes());
+    }
 }

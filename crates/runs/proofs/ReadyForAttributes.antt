@@ -1,12 +1,10 @@
 -- What represents a machine is ready for AttrApp and CacheWrite.
-use mathlib.Core.Bool.{true}
 use mathlib.Core.List.{List}
-use mathlib.Core.Path.{◌≡◌, sym, ◌∙◌}
+use mathlib.Core.Path.{◌≡◌, sym, ap, ◌∙◌}
 use Prim.Native.Nat.{ℕ, zero, suc, ◌+◌, ◌-◌, ◌^◌, ◌≤◌, ◌<◌}
 use native.Mathlib.Omega.{arith}
 use lib.ListN.{length, get_or}
 use borrow.Author.Tests.{ne_eqb}
-use Rattle.saiga.specs.Limits.{budget_limit}
 use Rattle.saiga.specs.Values.{node_of}
 use Rattle.saiga.specs.Sheet.{Sheet}
 use Rattle.saiga.proofs.Entries.{store_in}
@@ -16,18 +14,19 @@ use Rattle.stores.proofs.ByKey.{kept_word}
 use Rattle.engine.specs.RunningPiece.{piece_in, rest_of}
 use Rattle.values.specs.Packed.{value_in}
 use Rattle.engine.specs.declared.Registers.{Registers}
-use Rattle.engine.specs.FrameWords.{kind_of, if_kind, skip_kind, parameter_kind, form_kind, forward_kind, held_attribute, held_node}
+use Rattle.engine.specs.declared.frames.Kind.{Kind}
+use Rattle.engine.specs.declared.frames.Kind.TheVariants.{If, Skip, Parameter, Form, Forward}
+use Rattle.engine.specs.FrameWords.{kind_number, kind_of, parameter_kind, held_attribute, held_node}
 use Rattle.engine.specs.Decode.{frame_limit, run_size, sheet_of, words_in}
 use Rattle.engine.specs.Represents.{Represents}
 use Rattle.engine.specs.Ready.{memory_of, ParameterReady, FrameReady, PassReady}
 use Rattle.engine.proofs.Kept.{by_key}
 use Rattle.engine.proofs.RunMemory.{run_length, frame_at}
 use Rattle.engine.proofs.ReadyForCode.{rest-reaches, frames-inside, frame-ready, parameter-ready, if-starts, skip-starts, forward-open}
-use Rattle.engine.proofs.Steps.{late-kind, last-kind}
 use Rattle.engine.proofs.Tracking.{pass-ready}
 use Rattle.engine.proofs.Attributes.{form-counted, form-not-kept, figure-not-open, due_in, attribute-is, pair-indexed, some-piece}
 use Rattle.attributes.specs.Due.{WriteReady, CloseReady, AttributeReady}
-use Rattle.runs.specs.Moves.{MoveReady}
+use Rattle.runs.specs.Moves.{MoveReady, GiveReady}
 
 -- a running piece is short
 piece-short : (sheet question : List ℕ) (k : ℕ) → length sheet ≤ 65536 → length question ≤ 256 → length (piece_in sheet question k) ≤ 65536
@@ -56,25 +55,7 @@ module _ {sheet index notes question : List ℕ} {store links run : List ℕ} {m
   pub top-inside : 0 < m.frames → m.frames - 1 < frame_limit
   top-inside framed = omega (arith, frames-inside run r)
 
--- A value is given to the innermost frame, of kind `k`.
-pub record Given (sheet index notes question store links run : List ℕ) (budget limit : ℕ) (m : Registers) (k : ℕ) : Type 0 where
-  pub ready : MoveReady sheet index notes question store links run m
-  pub gives : m.returning ≡ true
-  pub some : 0 < m.frames
-  pub permitted : budget ≤ budget_limit
-  pub kind : k ≡ kind_of (get_or run (m.frames - 1) 0)
-
--- That a kind is none of 0 to 6, as a `match` on it hands that to its last arm.
-abbrev pub OtherKind : ℕ → Type 0
-OtherKind k = ((((((Unit {0} × (k ≡ 0 → ⊥)) × (k ≡ 1 → ⊥)) × (k ≡ 2 → ⊥)) × (k ≡ 3 → ⊥)) × (k ≡ 4 → ⊥)) × (k ≡ 5 → ⊥)) × (k ≡ 6 → ⊥)
-
-pub other-kind : (w : ℕ) {k : ℕ} → k ≡ kind_of w → OtherKind k → k ≡ forward_kind
-other-kind w is rest =
-    let late = late-kind w (rw is at rest.0.0.0.0.0.0.1) (rw is at rest.0.0.0.0.0.1) (rw is at rest.0.0.0.0.1) (rw is at rest.0.0.0.1) (rw is at rest.0.0.1) in
-    is ∙ last-kind w late (rw is at rest.1) (rw is at rest.0.1)
-
-module _ (sheet index notes question store links run : List ℕ) (budget limit : ℕ) (m : Registers) (k : ℕ)
-    (given : Given sheet index notes question store links run budget limit m k) where
+module _ {sheet index notes question store links run : List ℕ} {m : Registers} (given : GiveReady sheet index notes question store links run m) where
   abbrev rep : Represents sheet index question (memory_of store run) m
   rep = given.ready.represents
 
@@ -87,37 +68,43 @@ module _ (sheet index notes question store links run : List ℕ) (budget limit :
   is : w ≡ get_or (words_in run) (m.frames - 1) 0
   is = frame_at run (m.frames - 1) (top-inside given.ready given.some)
 
-  of-kind : (j : ℕ) → k ≡ j → kind_of (get_or (words_in run) (m.frames - 1) 0) ≡ j
-  of-kind j key = rw is at (sym given.kind ∙ key)
-
   pub framed : FrameReady run m
   framed = frame-ready run rep (run-size given.ready) given.some
 
-  module _ (e : List ℕ) (rest : e ≡ rest_of sheet question m.forms m.at m.end) where
-    pub if-ready : k ≡ if_kind → PassReady notes e m
-    if-ready key = rw rest (pass-ready rep given.ready.tracks (if-starts rep given.gives given.some (of-kind if_kind key)))
+  pub reaches : {e : List ℕ} → e ≡ rest_of sheet question m.forms m.at m.end → m.at + length e < 2 ^ 64
+  reaches rest = rw rest (omega (arith, rest-reaches run rep, end_short given.ready))
 
-    pub skip-ready : k ≡ skip_kind → PassReady notes e m
-    skip-ready key = rw rest (pass-ready rep given.ready.tracks (skip-starts rep given.gives given.some (of-kind skip_kind key)))
+  -- What a move needs by the frame's kind, which the code has read from its word.
+  module _ {k : Kind} (kind : kind_number k ≡ kind_of w) where
+    of-kind : {j : Kind} → k ≡ j → kind_of (get_or (words_in run) (m.frames - 1) 0) ≡ kind_number j
+    of-kind key = rw is at (sym kind ∙ ap kind_number key)
 
-    pub reaches : m.at + length e < 2 ^ 64
-    reaches = rw rest (omega (arith, rest-reaches run rep, end_short given.ready))
+    module _ {e : List ℕ} (rest : e ≡ rest_of sheet question m.forms m.at m.end) where
+      pub if-ready : k ≡ If → PassReady notes e m
+      if-ready key = rw rest (pass-ready rep given.ready.tracks (if-starts rep given.gives given.some (of-kind key)))
 
-  -- a form's frame is innermost, so one is open
-  pub form-open : k ≡ form_kind → 1 ≤ m.forms
-  form-open key = omega (arith, form-counted rep given.gives given.some (by_key decoded) (of-kind form_kind key))
+      pub skip-ready : k ≡ Skip → PassReady notes e m
+      skip-ready key = rw rest (pass-ready rep given.ready.tracks (skip-starts rep given.gives given.some (of-kind key)))
 
-  pub close-ready : k ≡ form_kind → CloseReady store links run m
-  close-ready key =
-      let opened = form-counted rep given.gives given.some (by_key decoded) (of-kind form_kind key) in
-      let ready = parameter-ready run rep (run-size given.ready) (omega (arith, opened, rep.holds.counted)) in
-      record {
-        writes = write-ready given.ready;
-        framed = given.some;
-        node = ready.node;
-        word_small = ready.word_small;
-        not_kept = form-not-kept rep given.gives given.some (by_key decoded) (of-kind form_kind key);
-      }
+    -- a form's frame is innermost, so one is open
+    pub form-open : k ≡ Form → 1 ≤ m.forms
+    form-open key = omega (arith, form-counted rep given.gives given.some (by_key decoded) (of-kind key))
+
+    pub close-ready : k ≡ Form → CloseReady store links run m
+    close-ready key =
+        let opened = form-counted rep given.gives given.some (by_key decoded) (of-kind key) in
+        let ready = parameter-ready run rep (run-size given.ready) (omega (arith, opened, rep.holds.counted)) in
+        record {
+          writes = write-ready given.ready;
+          framed = given.some;
+          node = ready.node;
+          word_small = ready.word_small;
+          not_kept = form-not-kept rep given.gives given.some (by_key decoded) (of-kind key);
+        }
+
+    -- a forward's frame is innermost: it stands on a form's
+    pub forward-ready : k ≡ Forward → ParameterReady sheet run m
+    forward-ready key = parameter-ready run rep (run-size given.ready) (forward-open rep given.gives given.some (of-kind key))
 
   -- AttrApp, with the node and the attribute that the innermost frame's word holds
   abbrev word : ℕ
@@ -149,11 +136,8 @@ module _ (sheet index notes question store links run : List ℕ) (budget limit :
         figure_closed = figure-not-open r gives some (by_key decoded) kind no-null-is;
       }
 
-  pub attribute-ready : k ≡ parameter_kind → (node_of (value_in (held_node w)) ≡ 65535 → ⊥)
+  pub attribute-ready : {k : Kind} → kind_number k ≡ kind_of w → k ≡ Parameter → (node_of (value_in (held_node w)) ≡ 65535 → ⊥)
       → AttributeReady sheet index store links run m (node_of (value_in (held_node w))) (held_attribute w)
-  attribute-ready key no_null = rw is (due-ready (of-kind parameter_kind key) (rw is at no_null))
+  attribute-ready kind key no_null = rw is (due-ready (of-kind kind key) (rw is at no_null))
 
-  -- a forward's frame is innermost: it stands on a form's
-  pub forward-ready : OtherKind k → ParameterReady sheet run m
-  forward-ready other =
-      parameter-ready run rep (run-size given.ready) (forward-open rep given.gives given.some (of-kind forward_kind (other-kind w given.kind other)))
+pub ruleset give_needs = (framed, reaches, if-ready, skip-ready, close-ready, forward-ready, attribute-ready)

@@ -1,14 +1,14 @@
 -- The rounds of the run's loop: what holds from move to move goes on holding, of every call whose run this is.
 use mathlib.Core.List.{List}
+use Rattle.std.specs.Prelude.{Result, Ok, Err}
 use mathlib.Core.Path.{◌≡◌, sym, ap, ◌∙◌}
 use Prim.Native.Nat.{ℕ, ◌≤◌, ◌<◌}
 use native.Mathlib.Omega.{arith}
 use Rattle.saiga.specs.Caching.{Counted, Ended}
-use Rattle.stores.specs.Keys.{Linked}
 use Rattle.engine.specs.declared.Registers.{Registers}
 use Rattle.engine.specs.Steps.{Memory, Stepped, goes, step_of}
 use Rattle.engine.specs.Represents.{machine_in}
-use Rattle.engine.specs.Decode.{forms_in, opens_in}
+use Rattle.engine.specs.Decode.{opens_in}
 use Rattle.engine.specs.Ready.{memory_of}
 use Rattle.engine.specs.Loop.{Invariant}
 use Rattle.engine.proofs.Loop.{invariant-on, invariant-falls, invariant-waits, invariant-finishes, invariant-stops}
@@ -16,13 +16,11 @@ use Rattle.engine.specs.Cost.{measure}
 use Rattle.engine.proofs.Tracking.{tracks_on}
 use Rattle.engine.specs.Tallied.{due_row, counted_in, rows_after, RowsWithin, Tallied}
 use Rattle.engine.proofs.Tallying.{rows_on, tallied-on, tallied-finishes, tallied-stops}
-use Rattle.engine.specs.declared.Step.{Step}
-use Rattle.engine.specs.declared.Step.TheVariants.{Goes, Waits, Finishes, Stops}
+use Rattle.engine.specs.declared.Halt.{Halt}
+use Rattle.engine.specs.declared.Halt.TheVariants.{Waits, Finishes, Stops}
 use Rattle.engine.specs.CodeSteps.{stepped_of, kept_after, forms_after}
-use Rattle.opens.specs.Opened.{Opened}
-use Rattle.runs.specs.declared.RunEnd.TheVariants as End
 use Rattle.runs.proofs.Counting.{stays-within-limit}
-use Rattle.runs.specs.Moves.{StepsTo, Running, RunsTo, TalliesTo}
+use Rattle.runs.specs.Moves.{StepsTo, Running, HaltsBy, TalliesBy}
 
 module _ (sheet index notes question : List ℕ) (budget limit : ℕ) where
   -- registers, memory and the rows of the tally, and those that the run began with
@@ -35,28 +33,12 @@ module _ (sheet index notes question : List ℕ) (budget limit : ℕ) where
     pub tallied : (all : List Counted) → Tallied sheet question budget all rows₀ (memory_of store₀ run₀) first
         → Tallied sheet question budget all rows (memory_of store run) m
 
-  pub first_round : {store links run rows : List ℕ} {m : Registers} → Running sheet index notes question budget store links run m
-      → RowsWithin m.steps rows → Round store run rows m store links run rows m
-  first_round running within =
-      record {
-        running = running;
-        on = λ lent kept whole i. i;
-        counted = λ h. h;
-        rows-within = within;
-        tallied = λ all t. t;
-      }
-
   module _ {store₀ run₀ rows₀ : List ℕ} {first : Registers} {store links run rows : List ℕ} {m : Registers}
       (round : Round store₀ run₀ rows₀ first store links run rows m) where
     abbrev mem : Memory
     mem = memory_of store run
 
-    -- No row is above the budget, as the steps are not.
-    pub rows-permitted : RowsWithin budget rows
-    rows-permitted =
-        record { size = round.rows-within.size; few = λ i. omega (arith, round.rows-within.few i, round.running.invariant.within) }
-
-    module _ {store' links' : List ℕ} (run' : List ℕ) {r : Step}
+    module _ {store' links' : List ℕ} (run' : List ℕ) {r : Result Registers Halt}
         (steps : StepsTo sheet index question budget limit mem (memory_of store' run') links' (opens_in run') m r) where
       abbrev mem' : Memory
       mem' = memory_of store' run'
@@ -65,10 +47,10 @@ module _ (sheet index notes question : List ℕ) (budget limit : ℕ) where
       move_of = step_of sheet index question budget limit steps.skip steps.packed mem m
 
       -- what the move was
-      came : {r' : Step} → r ≡ r' → move_of ≡ stepped_of r' mem'
+      came : {r' : Result Registers Halt} → r ≡ r' → move_of ≡ stepped_of r' mem'
       came is = sym steps.moved ∙ ap (λ r. stepped_of r mem') is
 
-      module _ {m' : Registers} (is : r ≡ Goes m') where
+      module _ {m' : Registers} (is : r ≡ Ok m') where
         goes_to : move_of ≡ goes m' mem'
         unfolding stepped_of
         goes_to = came is
@@ -110,9 +92,9 @@ module _ (sheet index notes question : List ℕ) (budget limit : ℕ) where
         now-holds : Invariant sheet index question budget lent kept whole mem m
         now-holds = round.on lent kept whole i
 
-        pub round-pauses : r ≡ Waits → RunsTo sheet index notes question budget limit lent kept whole first.steps mem' (End.Pauses m)
+        pub round-ends : (h : Halt) → r ≡ Err h → HaltsBy sheet index notes question budget limit lent kept whole first.steps mem' m h
         unfolding stepped_of
-        round-pauses is =
+        round-ends Waits is =
             let same : mem' ≡ mem = rw is at steps.still in
             let (due, reached, left) = invariant-waits now-holds limit steps.skip steps.packed steps.width steps.packs (came is) in
             record {
@@ -123,63 +105,29 @@ module _ (sheet index notes question : List ℕ) (budget limit : ℕ) where
               reached = reached;
               counted = λ h. let below = round.counted h in omega arith;
             }
-
-        pub round-finishes : r ≡ Finishes → RunsTo sheet index notes question budget limit lent kept whole first.steps mem' (End.Finishes m)
-        unfolding stepped_of
-        round-finishes is =
+        round-ends Finishes is =
             let same : mem' ≡ mem = rw is at steps.still in
             rw same (invariant-finishes now-holds limit steps.skip steps.packed steps.width steps.packs (came is))
-
-        pub round-stops : {number : ℕ} → r ≡ Stops number → RunsTo sheet index notes question budget limit lent kept whole first.steps mem' (End.Stops number m)
-        unfolding stepped_of
-        round-stops is =
+        round-ends (Stops s) is =
             let same : mem' ≡ mem = rw is at steps.still in
             rw same (invariant-stops now-holds limit steps.skip steps.packed steps.width steps.packs (came is))
 
       -- the tally then: a move by which the run does not go on leaves its rows
-      module _ (rows' : List ℕ) (after : rows' ≡ rows_after r (due_row mem m) rows) (all : List Counted)
-          (t : Tallied sheet question budget all rows₀ (memory_of store₀ run₀) first) where
-        pub tally-pauses : r ≡ Waits → TalliesTo sheet question budget all mem' rows' (End.Pauses m)
-        unfolding rows_after
-        tally-pauses is =
-            let same : mem' ≡ mem = rw is at steps.still in
-            let rows_are : rows' ≡ rows = rw is at after in
-            rw rows_are record { within = round.rows-within; tallied = rw same (round.tallied all t) }
+      pub tally-ends : (rows' : List ℕ) → rows' ≡ rows_after r (due_row mem m) rows → (all : List Counted)
+          → Tallied sheet question budget all rows₀ (memory_of store₀ run₀) first → (h : Halt) → r ≡ Err h → TalliesBy sheet question budget all mem' rows' m h
+      unfolding rows_after stepped_of
+      tally-ends rows' after all t Waits is =
+          let same : mem' ≡ mem = rw is at steps.still in
+          let rows_are : rows' ≡ rows = rw is at after in
+          rw rows_are record { within = round.rows-within; tallied = rw same (round.tallied all t) }
+      tally-ends rows' after all t Finishes is =
+          (rw is at after)
+          ∙ tallied-finishes round.running.invariant limit steps.skip steps.packed steps.width steps.packs round.rows-within (round.tallied all t) (came is)
+      tally-ends rows' after all t (Stops s) is =
+          (rw is at after)
+          ∙ tallied-stops round.running.invariant limit steps.skip steps.packed steps.width steps.packs round.rows-within (round.tallied all t) (came is)
 
-        pub tally-finishes : r ≡ Finishes → TalliesTo sheet question budget all mem' rows' (End.Finishes m)
-        unfolding rows_after stepped_of
-        tally-finishes is =
-            (rw is at after)
-            ∙ tallied-finishes round.running.invariant limit steps.skip steps.packed steps.width steps.packs round.rows-within (round.tallied all t) (came is)
-
-        pub tally-stops : {number : ℕ} → r ≡ Stops number → TalliesTo sheet question budget all mem' rows' (End.Stops number m)
-        unfolding rows_after stepped_of
-        tally-stops is =
-            (rw is at after)
-            ∙ tallied-stops round.running.invariant limit steps.skip steps.packed steps.width steps.packs round.rows-within (round.tallied all t) (came is)
-
-      -- the store's index then
-      pub paused-linked : r ≡ Waits → Linked store' m.kept links'
-      unfolding kept_after
-      paused-linked is = rw is at steps.linked
-
-      pub finished-linked : r ≡ Finishes → Linked store' m.kept links'
-      unfolding kept_after
-      finished-linked is = rw is at steps.linked
-
-      pub stopped-linked : {number : ℕ} → r ≡ Stops number → Linked store' m.kept links'
-      unfolding kept_after
-      stopped-linked is = rw is at steps.linked
-
-      -- and that of the open forms
-      pub paused-opened : r ≡ Waits → Opened (forms_in run') (opens_in run') m.forms
-      unfolding forms_after
-      paused-opened is = rw is at steps.opened
-
-      pub finished-opened : r ≡ Finishes → Opened (forms_in run') (opens_in run') m.forms
-      unfolding forms_after
-      finished-opened is = rw is at steps.opened
-
-      pub stopped-opened : {number : ℕ} → r ≡ Stops number → Opened (forms_in run') (opens_in run') m.forms
-      unfolding forms_after
-      stopped-opened is = rw is at steps.opened
+      -- A run that pauses leaves the rows of the steps that it took.
+      pub tally-pauses : (rows' : List ℕ) → rows' ≡ rows_after r (due_row mem m) rows → (all : List Counted)
+          → Tallied sheet question budget all rows₀ (memory_of store₀ run₀) first → r ≡ Err Waits → TalliesBy sheet question budget all mem' rows' m Waits
+      tally-pauses rows' after all t is = tally-ends rows' after all t Waits is

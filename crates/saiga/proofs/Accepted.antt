@@ -1,7 +1,7 @@
 -- What the check of a sheet promises (document 01, "The sheet" and "Stops by origin"): an accepted sheet is within its bounds and
 -- its context is correctly typed, a refusal is one of the stops 1 to 8, and the bound on the number of commands is never reached.
 use mathlib.Core.Bool.{Bool, true, false, cond, false≢true, ◌&&◌, and-eq-true_iff}
-use mathlib.Core.Option.{Option, none, some}
+use Rattle.std.specs.Prelude.{Option, None as none, Some as some}
 use mathlib.Core.List.{List, [], ◌∷◌}
 use mathlib.Core.Path.{◌≡◌, refl, sym, ◌∙◌, subst}
 use Prim.Native.Nat.{ℕ, zero, suc, ◌+◌, ◌≤◌, ◌<◌}

@@ -3,7 +3,7 @@
 use mathlib.Core.Bool.{Bool, true, false, false≢true}
 use mathlib.Core.Bool as Bool
 use mathlib.Core.Logic.{◌⊎◌, inl, inr}
-use mathlib.Core.Option.{some}
+use Rattle.std.specs.Prelude.{Some as some, Option, None as none}
 use mathlib.Core.List.{List, [], ◌∷◌}
 use mathlib.Core.Path.{◌≡◌, refl, sym, ◌∙◌, ap}
 use Prim.Native.Nat.{ℕ, suc, ◌+◌, ◌≤◌}
@@ -11,7 +11,7 @@ use native.Mathlib.Omega.{arith}
 use native.Mathlib.Numerals.{add-one}
 use borrow.Author.Tests.{ltb-true, lt-ltb}
 use lib.Dec.{eqb, ltb}
-use Rattle.saiga.specs.Values.{Value, null, Applied, gives, overflows, apply}
+use Rattle.saiga.specs.Values.{Value, null, apply}
 use Rattle.saiga.specs.Expressions.{Expr}
 use Rattle.saiga.specs.Terms.{Occurrence, val, cond, app, attr, form}
 use Rattle.saiga.specs.Plain.{Plain, on_null, ends_without, plain_step, plain_at, RunsForEver}
@@ -86,10 +86,10 @@ module _ (context : ℕ → ℕ → Expr) (s : List Entry) where
       go false true d = inr refl
       go false false d = inl refl
 
-  agree-app : (a : Applied) → Agree (app_app false a) (app_app true a)
+  agree-app : (a : Option Value) → Agree (app_app false a) (app_app true a)
   unfolding app_app count
-  agree-app (gives v) = inl refl
-  agree-app overflows = inr refl
+  agree-app (some v) = inl refl
+  agree-app none = inr refl
 
   agree : (os : List Occurrence) (t : Running) → Agree (due context s false os t) (due context s true os t)
   unfolding due count

@@ -1,7 +1,7 @@
 -- Demand 3 holds of every accepted sheet.
 use mathlib.Core.Bool.{Bool, true, false}
 use mathlib.Core.List.{List, [], ◌∷◌, ◌++◌}
-use mathlib.Core.Option.{none-ne-some}
+use Rattle.std.proofs.lemmas.Option.{none-some}
 use mathlib.Core.Path.{◌≡◌, refl, ◌∙◌, ap}
 use Prim.Native.Nat.{ℕ, ◌/◌, ◌%◌, ◌≤◌}
 use native.Mathlib.Omega.{arith}
@@ -49,7 +49,7 @@ module _ (sheet : List ℕ) (s : Sheet) (ok : check_sheet sheet ≡ accepted s) 
       record {
         passes = rw (f.none_kept, eq-eqb (length m.store % entry_width) 0 (omega arith), le-leb (length m.store) store_limit (omega arith), leb-zero (capacity m.store));
         sized = omega arith;
-        right = record { right = λ o v k. unfold kept in absurd (none-ne-some v k) };
+        right = record { right = λ o v k. unfold kept in absurd (none-some v k) };
       }
 
   module _ (size : ℕ) (entries : List Entry) (m : Lent) (r : Reached size entries m) where

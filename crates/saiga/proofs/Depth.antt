@@ -1,7 +1,7 @@
 -- When stops 20 and 16 are due, by what is kept, which forms are open and how many.
 use mathlib.Core.Bool.{false, true, and-false}
 use mathlib.Core.Bool as Bool
-use mathlib.Core.Option.{none, some}
+use Rattle.std.specs.Prelude.{None as none, Some as some}
 use mathlib.Core.List.{List}
 use mathlib.Core.Path.{◌≡◌, refl}
 use Prim.Native.Nat.{◌≤◌, ◌<◌}

@@ -2,13 +2,13 @@
 use mathlib.Core.Bool.{Bool, true, false, ◌&&◌, ◌||◌}
 use mathlib.Core.Bool as Bool
 use mathlib.Core.Logic.{◌⊎◌, inl, inr}
-use mathlib.Core.Option.{Option, none, some}
+use Rattle.std.specs.Prelude.{Option, None as none, Some as some}
 use mathlib.Core.List.{List, ◌∷◌}
 use mathlib.Core.Path.{◌≡◌, refl, sym, ◌∙◌, ap}
 use Prim.Native.Nat.{ℕ, suc, ◌+◌}
 use lib.Dec.{eqb}
 use borrow.Author.Tests.{eqb-false}
-use Rattle.saiga.specs.Values.{Value, null, truth, node_of, Applied, gives, overflows, apply}
+use Rattle.saiga.specs.Values.{Value, null, truth, node_of, apply}
 use Rattle.saiga.specs.Expressions.{Expr, literal, if, application, attribute, this, parameter}
 use Rattle.saiga.specs.Terms.{Occurrence, val, cond, app, attr, form, put}
 use Rattle.saiga.specs.Plain.{Plain, steps_to, on_null, ends_without, step_part, plain_application, plain_attribute, plain_step, plain_at, RunsForEver}
@@ -209,10 +209,10 @@ module _ (context : ℕ → ℕ → Expr) where
         go true = (record { more = 0; reached = step-first context 0 p (erase t) (erase t) e refl }, f)
         go false = (erase t, e)
 
-    seen-app : (os : List Occurrence) (p : Plain) (a : Applied) → plain_step context p ≡ plain_application a → SeenAs os p (app_app b a)
+    seen-app : (os : List Occurrence) (p : Plain) (a : Option Value) → plain_step context p ≡ plain_application a → SeenAs os p (app_app b a)
     unfolding plain_application app_app erase
-    seen-app os p (gives v) e = seen-count os p AppApp (val v) e tt
-    seen-app os p overflows e = e
+    seen-app os p (some v) e = seen-count os p AppApp (val v) e tt
+    seen-app os p none e = e
 
     branch : (z : Bool) (t e : Running) → Faithful t → Faithful e → (erase (Bool.cond z t e) ≡ Bool.cond z (erase t) (erase e)) × Faithful (Bool.cond z t e)
     branch true t e f g = (refl, f)

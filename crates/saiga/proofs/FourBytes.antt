@@ -1,4 +1,5 @@
 -- The four-byte form of the base values, and bytes: writing and reading undo one another.
+use Rattle.std.specs.Prelude.{Option, None as none, Some as some}
 use mathlib.Core.Bool.{Bool, true, false, false≢true, cond, ◌||◌}
 use mathlib.Core.Path.{◌≡◌, refl, sym, ap}
 use Prim.Native.Nat.{ℕ, zero, suc, ◌+◌, ◌-◌, ◌/◌, ◌%◌, ◌^◌, ◌≤◌, ◌<◌}
@@ -9,7 +10,7 @@ use lib.IntN.{ℤ, pos, negsuc}
 use lib.ListN.{length}
 use lib.Signed.{mag, lt_z}
 use borrow.Author.Tests.{ltb-true, ltb-false, eqb-true, eqb-false, lt-ltb, le-ltb, eq-eqb}
-use Rattle.saiga.specs.Values.{Base, unit_t, bool_t, int_t, node_t, base_code, base, Value, unit, bool, int, node, type_of, null, lowest, highest, fits, beyond, exact, Applied, gives, overflows, summed, equal_z, word_limit, sign_bit, of_bytes, to_bytes, signed, unsigned, bit, is_word, of_word, to_word, type_code, same_value}
+use Rattle.saiga.specs.Values.{Base, unit_t, bool_t, int_t, node_t, base_code, base, Value, unit, bool, int, node, type_of, null, lowest, highest, exact, summed, equal_z, word_limit, sign_bit, of_bytes, to_bytes, signed, unsigned, bit, is_word, of_word, to_word, type_code, same_value}
 use Rattle.saiga.specs.FourBytes.{TwosComplement, IsInt, WritingAndReading, FourEnds}
 use Rattle.saiga.specs.Sound.{IsA}
 
@@ -82,11 +83,11 @@ between-mag (negsuc n) e = go (ltb 2147483647 n) refl e
     go false h e = omega (arith, ltb-false 2147483647 n h)
 
 -- What is told to fit is such a number.
-pub exact-mag : (w z : ℤ) → exact w ≡ fits z → mag z < sign_bit
+pub exact-mag : (w z : ℤ) → exact w ≡ some z → mag z < sign_bit
 unfolding exact
 exact-mag w z = go (lt_z w lowest || lt_z highest w) refl
   where
-    go : (b : Bool) → (lt_z w lowest || lt_z highest w) ≡ b → cond b beyond (fits w) ≡ fits z → mag z < sign_bit
+    go : (b : Bool) → (lt_z w lowest || lt_z highest w) ≡ b → cond b none (some w) ≡ some z → mag z < sign_bit
     go true h e = absurd (let z : ◌≡◌ {A = ℕ} 0 1 = cc in omega arith)
     go false h e = let same : w ≡ z = cc in rw same at (between-mag w h)
 
@@ -102,11 +103,11 @@ beyond-ends (negsuc n) e i = go (ltb 2147483647 n) refl e
     go false h e = false≢true e
 
 -- What add and subtract give, by whether their exact result is an Int.
-pub by-ends : (P : Applied → Type 0) (z : ℤ) → (IsInt z → P (gives (int z))) → ((IsInt z → ⊥) → P overflows) → P (summed (exact z))
+pub by-ends : (P : Option Value → Type 0) (z : ℤ) → (IsInt z → P (some (int z))) → ((IsInt z → ⊥) → P none) → P (summed (exact z))
 unfolding exact summed
 by-ends P z inside outside = go (lt_z z lowest || lt_z highest z) refl
   where
-    go : (b : Bool) → (lt_z z lowest || lt_z highest z) ≡ b → P (summed (cond b beyond (fits z)))
+    go : (b : Bool) → (lt_z z lowest || lt_z highest z) ≡ b → P (summed (cond b none (some z)))
     go true e = outside (beyond-ends z e)
     go false e = inside (between_ends z e)
 

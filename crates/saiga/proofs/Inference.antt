@@ -1,7 +1,8 @@
 -- Inference gives the type that the rules of the figures give, and no other.
 use mathlib.Core.Bool.{Bool, true, false, cond, false≢true}
 use mathlib.Core.List.{List}
-use mathlib.Core.Option.{Option, none, some, none-ne-some}
+use Rattle.std.specs.Prelude.{Option, None as none, Some as some}
+use Rattle.std.proofs.lemmas.Option.{none-some}
 use mathlib.Core.Path.{◌≡◌, refl, sym, ap, ap₂, ◌∙◌, subst}
 use lib.Dec.{ltb}
 use lib.ListN.{length}
@@ -46,14 +47,14 @@ same_ty-refl (B ⇒ T) = rw (eq-eqb (base_code B) (base_code B) refl) (same_ty-r
 
 given-some : (T : Ty) (I X : Option Ty) {U : Ty} → given T I X ≡ some U → (I ≡ some T) × (X ≡ some U)
 unfolding given
-given-some T none X {U} h = absurd (none-ne-some U h)
+given-some T none X {U} h = absurd (none-some U h)
 given-some T (some S) X {U} h =
-    let (e, k) = cond-passes (same_ty T S) h (none-ne-some U) in
+    let (e, k) = cond-passes (same_ty T S) h (none-some U) in
     (ap some (sym (same_ty-sound T S e)), k)
 
 if_some : (C D E : Option Ty) {T : Ty} → infer_if C D E ≡ some T → (C ≡ some (base bool_t)) × (D ≡ some T) × (E ≡ some T)
 unfolding infer_if
-if_some C none E {T} h = absurd (none-ne-some T h)
+if_some C none E {T} h = absurd (none-some T h)
 if_some C (some S) E h =
     let (c, k) = given-some (base bool_t) C _ h in
     let (e, d) = given-some S E _ k in
@@ -61,8 +62,8 @@ if_some C (some S) E h =
 
 application-some : (F X : Option Ty) {T : Ty} → infer_application F X ≡ some T → (B : Base) × (F ≡ some (B ⇒ T)) × (X ≡ some (base B))
 unfolding infer_application
-application-some none X {T} h = absurd (none-ne-some T h)
-application-some (some (base B)) X {T} h = absurd (none-ne-some T h)
+application-some none X {T} h = absurd (none-some T h)
+application-some (some (base B)) X {T} h = absurd (none-some T h)
 application-some (some (B ⇒ S)) X h =
     let (x, e) = given-some (base B) X _ h in
     (B, cc, x)
@@ -77,7 +78,7 @@ infer-sound {sig} {p} (application f x) h =
     let (B, F, X) = application-some (infer sig p f) (infer sig p x) h in
     application∈ (infer-sound f F) (infer-sound x X)
 infer-sound {sig} {p} (attribute n a x) {T} h =
-    let (l, k) = cond-passes (ltb a (length sig)) h (none-ne-some T) in
+    let (l, k) = cond-passes (ltb a (length sig)) h (none-some T) in
     let (N, j) = given-some (base node_t) (infer sig p n) _ k in
     let (X, i) = given-some (base (attribute_at sig a).parameter-type) (infer sig p x) _ j in
     let e : base (attribute_at sig a).result ≡ T = cc in

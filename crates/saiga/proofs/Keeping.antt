@@ -2,7 +2,8 @@
 use mathlib.Core.Bool.{Bool, true, false, ◌||◌}
 use mathlib.Core.Bool as Bool
 use mathlib.Core.Logic.{◌⊎◌, inl, inr}
-use mathlib.Core.Option.{none, some, none-ne-some}
+use Rattle.std.specs.Prelude.{None as none, Some as some}
+use Rattle.std.proofs.lemmas.Option.{none-some}
 use mathlib.Core.List.{List, [], ◌∷◌, ◌++◌}
 use mathlib.Core.Path.{◌≡◌, refl}
 use Prim.Native.Nat.{ℕ, ◌≤◌}
@@ -21,7 +22,7 @@ use Rattle.saiga.proofs.Erasure.{Yields, Right, Faithful, Seen, seen}
 -- What is kept stays kept when entries are added.
 kept-before : (l m : List Entry) (o : Occurrence) (v : Value) → kept l o ≡ some v → kept (l ++ m) o ≡ some v
 unfolding kept
-kept-before [] m o v e = absurd (none-ne-some v e)
+kept-before [] m o v e = absurd (none-some v e)
 kept-before (n ∷ l) m o v e = go (kept-before l m o v) (same_occurrence n.occurrence o) e
   where
     go : (kept l o ≡ some v → kept (l ++ m) o ≡ some v) → (b : Bool)

@@ -2,7 +2,7 @@
 use mathlib.Core.Bool.{Bool, true, false, ◌&&◌}
 use mathlib.Core.Bool as Bool
 use mathlib.Core.Logic.{◌⊎◌, inl, inr}
-use mathlib.Core.Option.{Option, none, some}
+use Rattle.std.specs.Prelude.{Option, None as none, Some as some}
 use mathlib.Core.List.{List, [], ◌∷◌}
 use mathlib.Core.Path.{◌≡◌, refl, ◌∙◌, ap}
 use Prim.Native.Nat.{ℕ, suc, ◌≤◌}
@@ -11,7 +11,7 @@ use lib.Dec.{leb, ltb, eqb}
 use lib.ListN.{length}
 use borrow.Author.Tests.{leb-true, leb-false, ltb-true, lt-ltb}
 use Rattle.saiga.specs.Limits.{depth_limit}
-use Rattle.saiga.specs.Values.{Value, null, node_of, Applied, gives, overflows, apply}
+use Rattle.saiga.specs.Values.{Value, null, node_of, apply}
 use Rattle.saiga.specs.Expressions.{Expr}
 use Rattle.saiga.specs.Terms.{Occurrence, val, cond, app, attr, form, put}
 use Rattle.saiga.specs.Plain.{plain_step, is_value, on_null, ends_without}
@@ -153,11 +153,11 @@ module _ (context : ℕ → ℕ → Expr) (S : List Entry) where
   follows-count false B budgets os' r t t' e = tt
 
   -- AppApp
-  follows-app : (b B : Bool) → (b ≡ true → B ≡ true) → (os' : List Occurrence) (t' : Running) (a : Applied)
+  follows-app : (b B : Bool) → (b ≡ true → B ≡ true) → (os' : List Occurrence) (t' : Running) (a : Option Value)
       → due context S B os' t' ≡ app_app B a → Follows B os' t' (app_app b a)
   unfolding app_app
-  follows-app b B budgets os' t' (gives v) e = follows-count b B budgets os' AppApp (val v) t' e
-  follows-app b B budgets os' t' overflows e = e
+  follows-app b B budgets os' t' (some v) e = follows-count b B budgets os' AppApp (val v) t' e
+  follows-app b B budgets os' t' none e = e
 
 module _ (context : ℕ → ℕ → Expr) (s S : List Entry) (within : Contained s S) (r : Right context s) (R : Right context S)
     (b B : Bool) (budgets : b ≡ true → B ≡ true) where

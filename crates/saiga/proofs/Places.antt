@@ -1,6 +1,6 @@
 -- In plain Saiga a part is stepped inside the whole as it is alone; so an occurrence that comes due in the run of its own σ runs for ever.
 use mathlib.Core.Bool.{Bool, true, false}
-use mathlib.Core.Option.{Option, some, get_or}
+use Rattle.std.specs.Prelude.{Option, Some as some, unwrap_or}
 use mathlib.Core.Path.{◌≡◌, refl, sym, ◌∙◌, ap}
 use Prim.Native.Nat.{ℕ, zero, suc, ◌+◌, ◌-◌, ◌≤◌}
 use native.Mathlib.Omega.{arith}
@@ -70,7 +70,7 @@ module _ (context : ℕ → ℕ → Expr) where
 
   pub fill-comes : (around : Around) (n : ℕ) (p p' : Plain) → plain_at context n p ≡ some p' → plain_at context n (fill around p) ≡ some (fill around p')
   unfolding plain_at
-  fill-comes around zero p p' h = ap (λ (o : Option Plain). some (fill around (get_or o p))) h
+  fill-comes around zero p p' h = ap (λ (o : Option Plain). some (fill around (unwrap_or o p))) h
   fill-comes around (suc n) p p' h =
       let s = stepped context n p p' h in
       step-first n (fill around p) (fill around s.0) (fill around p') (fill-steps around p s.0 s.1) (fill-comes around n s.0 p' s.2)

@@ -4,7 +4,7 @@ use mathlib.Core.Bool.{Bool, true, false, ◌||◌, false≢true}
 use mathlib.Core.Bool as Bool
 use mathlib.Core.List.{List}
 use mathlib.Core.Logic.{◌⊎◌, inl, inr}
-use mathlib.Core.Option.{some}
+use Rattle.std.specs.Prelude.{Some as some, Option, None as none}
 use mathlib.Core.Path.{◌≡◌, refl}
 use Prim.Native.Nat.{ℕ, zero, suc, ◌+◌, ◌*◌, ◌≤◌, ◌<◌, zero-le}
 use native.Mathlib.Omega.{arith}
@@ -12,7 +12,7 @@ use lib.Dec.{eqb}
 use lib.ListN.{length}
 use borrow.Author.Tests.{eqb-true, eqb-false, ne_eqb}
 use Rattle.saiga.specs.Limits.{node_limit, attribute_limit}
-use Rattle.saiga.specs.Values.{node_t, Ty, base, Value, truth, null, node_of, Applied, gives, overflows, apply, word_limit, to_word}
+use Rattle.saiga.specs.Values.{node_t, Ty, base, Value, truth, null, node_of, apply, word_limit, to_word}
 use Rattle.saiga.specs.Expressions.{Expr}
 use Rattle.saiga.specs.Types.{Attribute, attribute_at}
 use Rattle.saiga.specs.Terms.{Occurrence, val, app, attr}
@@ -130,10 +130,10 @@ module _ (nodes : ℕ) (sig : List Attribute) (context : ℕ → ℕ → Expr) (
 
   -- ---- The verdict of each expression
 
-  applied : {is-open : ℕ → Bool} (v w : Value) (r : Applied) → apply v w ≡ r → Verdict is-open (app (val v) (val w))
+  applied : {is-open : ℕ → Bool} (v w : Value) (r : Option Value) → apply v w ≡ r → Verdict is-open (app (val v) (val w))
   unfolding plain_at plain_step step_part plain_application
-  applied v w (gives u) e = next (rw e) (with_value 0 u refl)
-  applied v w overflows e = without 0 by_overflow (app (val v) (val w)) refl (rw e)
+  applied v w (some u) e = next (rw e) (with_value 0 u refl)
+  applied v w none e = without 0 by_overflow (app (val v) (val w)) refl (rw e)
 
   module _ (apart : (o p : Occurrence) → OccurrenceIn nodes sig o → OccurrenceIn nodes sig p → code o ≡ code p → o ≡ p) where
     -- AttrApp is due on an occurrence that is not open: its σ takes the place, and the occurrence is open.

@@ -1,5 +1,6 @@
 -- Plain Saiga is deterministic.
-use mathlib.Core.Option.{some, none-ne-some}
+use Rattle.std.specs.Prelude.{Some as some}
+use Rattle.std.proofs.lemmas.Option.{none-some}
 use mathlib.Core.Path.{◌≡◌, refl, sym, ◌∙◌, ap}
 use Prim.Native.Nat.{ℕ, zero, suc, ◌≤◌, zero-le, suc-le-suc}
 use native.Mathlib.Omega.{arith}
@@ -15,9 +16,9 @@ module _ (context : ℕ → ℕ → Expr) where
   stepped n t t'' p = go (plain_step context t) refl
     where
       go : (d : PlainStep) → plain_step context t ≡ d → (t' : Plain) × (plain_step context t ≡ steps_to t') × (plain_at context n t' ≡ some t'')
-      go (is_value u) e = absurd (none-ne-some t'' (rw (e, plain_at) at p))
+      go (is_value u) e = absurd (none-some t'' (rw (e, plain_at) at p))
       go (steps_to t') e = (t', e, rw (e, plain_at) at p)
-      go (ends_without why) e = absurd (none-ne-some t'' (rw (e, plain_at) at p))
+      go (ends_without why) e = absurd (none-some t'' (rw (e, plain_at) at p))
 
   -- No step is due: a value, or an ending without one.
   abbrev pub Final : Plain → Type 0

@@ -2,7 +2,7 @@
 -- steps, and what a run keeps and ends with is of its type too.
 use mathlib.Core.Bool.{Bool, true, false, ◌||◌}
 use mathlib.Core.Bool as Bool
-use mathlib.Core.Option.{Option, none, some}
+use Rattle.std.specs.Prelude.{Option, None as none, Some as some}
 use mathlib.Core.List.{List, [], ◌∷◌, ◌++◌}
 use mathlib.Core.Path.{◌≡◌, refl, sym, ◌∙◌, ap, subst}
 use Prim.Native.Nat.{ℕ, zero, suc, ◌<◌}
@@ -11,7 +11,7 @@ use lib.IntN.{ℤ}
 use lib.ListN.{length}
 use native.Mathlib.Omega.{arith}
 use borrow.Author.Tests.{ltb-true, lt-ltb}
-use Rattle.saiga.specs.Values.{Base, int_t, node_t, Ty, base, ◌⇒◌, Value, unit, bool, int, node, function, holding, Function, le, equal_int, equal_node, negation, add, subtract, Holding, le_of, equal_int_of, equal_node_of, add_to, subtract_from, function_type, holding_type, type_of, null, truth, node_of, exact, Applied, gives, overflows, apply_function, summed, apply_holding, apply, is_word, of_word, to_word}
+use Rattle.saiga.specs.Values.{Base, int_t, node_t, Ty, base, ◌⇒◌, Value, unit, bool, int, node, function, holding, Function, le, equal_int, equal_node, negation, add, subtract, Holding, le_of, equal_int_of, equal_node_of, add_to, subtract_from, function_type, holding_type, type_of, null, truth, node_of, exact, apply_function, summed, apply_holding, apply, is_word, of_word, to_word}
 use Rattle.saiga.specs.Expressions.{Expr, Scope}
 use Rattle.saiga.specs.Types.{Attribute, attribute_at}
 use Rattle.saiga.specs.Terms.{Occurrence, put}
@@ -33,9 +33,9 @@ pub no-function {ℓ} : {A : Type ℓ} {B C : Base} {T : Ty} → base B ≡ (C �
 no-function e = absurd (let z : ◌≡◌ {A = ℕ} 0 1 = cc in omega arith)
 
 -- what a function gives, of a type
-abbrev pub AppliedIn : ℕ → Ty → Applied → Type 0
-AppliedIn nodes T (gives v) = ValueIn nodes T v
-AppliedIn nodes T overflows = Unit {0}
+abbrev pub AppliedIn : ℕ → Ty → Option Value → Type 0
+AppliedIn nodes T (some v) = ValueIn nodes T v
+AppliedIn nodes T none = Unit {0}
 
 summed-in : (nodes : ℕ) (z : ℤ) → AppliedIn nodes (base int_t) (summed (exact z))
 summed-in nodes z = by-ends (AppliedIn nodes (base int_t)) z (λ i. int-in nodes z i) (λ _. tt)
@@ -157,10 +157,10 @@ module _ (nodes : ℕ) (sig : List Attribute) where
   plain-part-in inside after (steps_to t) h f g = f t h
   plain-part-in inside after (ends_without why) h f g = tt
 
-  plain-application-in : (T : Ty) (a : Applied) → AppliedIn nodes T a → PlainStepIn nodes sig T (plain_application a)
+  plain-application-in : (T : Ty) (a : Option Value) → AppliedIn nodes T a → PlainStepIn nodes sig T (plain_application a)
   unfolding plain_application
-  plain-application-in T (gives v) h = val∈ h
-  plain-application-in T overflows h = tt
+  plain-application-in T (some v) h = val∈ h
+  plain-application-in T none h = tt
 
   module _ (context : ℕ → ℕ → Expr) (c : ContextIn nodes sig context) where
     plain-attribute-in : (v : Value) (a : ℕ) (x : Value) → a < length sig → IsA nodes node_t v → IsA nodes (attribute_at sig a).parameter-type x
@@ -219,10 +219,10 @@ module _ (nodes : ℕ) (sig : List Attribute) where
   unfolding count
   count-in {T} {t} b r rule h = either (DueIn nodes sig T) b {x = counts r t} {y = halts spent} (λ _. (rule, h)) (λ _. tt)
 
-  app_app-in : (T : Ty) (b : Bool) (a : Applied) → AppliedIn nodes T a → DueIn nodes sig T (app_app b a)
+  app_app-in : (T : Ty) (b : Bool) (a : Option Value) → AppliedIn nodes T a → DueIn nodes sig T (app_app b a)
   unfolding app_app
-  app_app-in T b (gives v) h = count-in b AppApp tt (val∈ h)
-  app_app-in T b overflows h = tt
+  app_app-in T b (some v) h = count-in b AppApp tt (val∈ h)
+  app_app-in T b none h = tt
 
   cond-rule-in : (b : Bool) → RuleIn sig (cond_rule b)
   unfolding cond_rule

@@ -1,7 +1,7 @@
 -- The run of a call ends by its own stops: the number that bounds `run` is never reached.
 use mathlib.Core.Bool.{Bool, true, false}
 use mathlib.Core.Bool as Bool
-use mathlib.Core.Option.{Option, none, some}
+use Rattle.std.specs.Prelude.{Option, None as none, Some as some}
 use mathlib.Core.List.{List, [], ◌∷◌}
 use mathlib.Core.Path.{◌≡◌, refl, sym, ap, ◌∙◌}
 use Prim.Native.Nat.{ℕ, zero, suc, ◌+◌, ◌*◌, ◌-◌, ◌≤◌, ◌<◌, zero-le}
@@ -10,7 +10,7 @@ use native.Mathlib.Numerals.{add-one}
 use native.Mathlib.Omega.{arith}
 use borrow.Author.Tests.{ltb-true, ltb-false}
 use lib.Dec.{ltb, eqb}
-use Rattle.saiga.specs.Values.{Value, null, truth, Applied, gives, overflows, apply}
+use Rattle.saiga.specs.Values.{Value, null, truth, apply}
 use Rattle.saiga.specs.Expressions.{Expr, literal, if, application, attribute, this, parameter}
 use Rattle.saiga.specs.Terms.{Occurrence, val, cond, app, attr, form, put}
 use Rattle.saiga.specs.Plain.{on_null, by_overflow}
@@ -62,10 +62,10 @@ unfolding count
 falls-count true r t h = falls-counts refl h
 falls-count false r t h = falls-halts {r = spent} refl
 
-falls-app : (b : Bool) {n : ℕ} (a : Applied) → Falls b n (app_app b a)
+falls-app : (b : Bool) {n : ℕ} (a : Option Value) → Falls b n (app_app b a)
 unfolding app_app forms
-falls-app b (gives v) = falls-count b AppApp (val v) zero-le
-falls-app b overflows = falls-halts {r = as_plain by_overflow} tt
+falls-app b (some v) = falls-count b AppApp (val v) zero-le
+falls-app b none = falls-halts {r = as_plain by_overflow} tt
 
 -- what a sheet writes has no form
 pub forms-put : (n : ℕ) (v : Value) (e : Expr) → forms (put n v e) ≡ 0

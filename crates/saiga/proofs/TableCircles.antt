@@ -1,5 +1,5 @@
 -- The rows of stop 20 hold, by computation.
-use mathlib.Core.Option.{some}
+use Rattle.std.specs.Prelude.{Some as some}
 use mathlib.Core.Path.{◌≡◌, refl}
 use Prim.Native.Nat.{ℕ}
 use native.Mathlib.Omega.{arith}

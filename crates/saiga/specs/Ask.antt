@@ -1,6 +1,6 @@
 -- A question call on bytes (document 01, "Stops by origin" and "Contracts").
 use Rattle.std.specs.Prelude.{cond, List, ℕ, suc, ◌*◌, leb, length, replicate, ℤ, pos}
-use Rattle.std.proofs.Math.Option.{Option, none, some}
+use Rattle.std.specs.Prelude.{Option, None as none, Some as some}
 use Rattle.saiga.specs.Limits.{budget_limit, tally_rows}
 use Rattle.saiga.specs.Values.{unit_t, Ty, base, ◌⇒◌, unit, type_code, decimal}
 use Rattle.saiga.specs.Expressions.{Expr, Whole, no_expression, expression, read_whole}

@@ -1,9 +1,9 @@
 -- Saiga's caching steps (001, figures 6, 8 and 10) with the limits of document 01, "The steps".
 use Rattle.std.specs.Prelude.{Bool, true, false, ◌&&◌, ◌||◌, List, [], ◌∷◌, ◌++◌, ℕ, zero, suc, eqb, ltb, leb, length}
 use Rattle.std.proofs.Math.Bool as Bool
-use Rattle.std.proofs.Math.Option.{Option, none, some}
+use Rattle.std.specs.Prelude.{Option, None as none, Some as some}
 use Rattle.saiga.specs.Limits.{depth_limit}
-use Rattle.saiga.specs.Values.{Value, null, truth, node_of, Applied, gives, overflows, apply, same_value}
+use Rattle.saiga.specs.Values.{Value, null, truth, node_of, apply, same_value}
 use Rattle.saiga.specs.Expressions.{Expr}
 use Rattle.saiga.specs.Terms.{Occurrence, Term, val, cond, app, attr, form, put}
 use Rattle.saiga.specs.Plain.{NoValue, on_null, by_overflow}
@@ -72,9 +72,9 @@ cond_rule true = CondTrue
 cond_rule false = CondFalse
 
 -- AppApp: 17, then 15. 17 overflow is "tested like 14 before 15" (F-4 of document 02), also with the whole budget used.
-unfoldable pub app_app : Bool → Applied → Due
-app_app has-budget (gives v) = count has-budget AppApp (val v)
-app_app has-budget overflows = halts (as_plain by_overflow)
+unfoldable pub app_app : Bool → Option Value → Due
+app_app has-budget (some v) = count has-budget AppApp (val v)
+app_app has-budget none = halts (as_plain by_overflow)
 
 -- "AttrApp takes a kept value before σ."
 unfoldable pub kept_or : Option Value → Running → Running

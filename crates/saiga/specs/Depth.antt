@@ -1,6 +1,6 @@
 -- When stops 20 and 16 are due (document 01, "Stops by origin"; F-8 and F-9 of document 02): a law of AttrApp.
 use Rattle.std.specs.Prelude.{Bool, true, false, List, ◌≡◌, ℕ, ◌≤◌, ◌<◌, length}
-use Rattle.std.proofs.Math.Option.{none, some}
+use Rattle.std.specs.Prelude.{None as none, Some as some}
 use Rattle.saiga.specs.Limits.{depth_limit}
 use Rattle.saiga.specs.Values.{Value, null}
 use Rattle.saiga.specs.Expressions.{Expr}

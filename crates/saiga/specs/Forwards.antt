@@ -1,5 +1,5 @@
 -- What a forward is (F-7 of document 02): its expression in a rule's place, and the rules that it stands for (003, section 3.2).
-use Rattle.std.proofs.Math.Option.{Option, none, some}
+use Rattle.std.specs.Prelude.{Option, None as none, Some as some}
 use Rattle.std.specs.Prelude.{List, [], ◌∷◌, ◌++◌, ◌≡◌, ℕ, ◌+◌, ◌≤◌, ◌<◌, length}
 use Rattle.saiga.specs.Limits.{expression_limit}
 use Rattle.saiga.specs.Values.{Base}

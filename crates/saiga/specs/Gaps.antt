@@ -1,7 +1,7 @@
 -- Stop 8: which of several pairs without definition it names (document 02, F-1). `defined n a` tells whether node n has a definition for attribute a;
 -- `nodes` and `attributes` are how many there are.
 use Rattle.std.specs.Prelude.{Bool, true, false, ◌↔◌, ◌≡◌, ℕ, zero, suc, ◌+◌, ◌*◌, ◌<◌}
-use Rattle.std.proofs.Math.Option.{Option, none, some}
+use Rattle.std.specs.Prelude.{Option, None as none, Some as some}
 use Rattle.saiga.specs.Limits.{attribute_limit}
 
 -- ---- The order

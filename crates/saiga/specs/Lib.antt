@@ -15,6 +15,7 @@ pub mod Runs
 pub mod Sound
 pub mod Store
 pub mod Ask
+pub mod Stops
 pub mod Safety
 pub mod Calls
 pub mod Tallies

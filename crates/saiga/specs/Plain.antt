@@ -1,8 +1,8 @@
 -- Plain Saiga (document 01, "Plain Saiga", and F-4 of document 02): no store, no form n.a(v) := e, no limits.
 use Rattle.std.specs.Prelude.{◌≡◌, ℕ, zero, suc, eqb}
 use Rattle.std.proofs.Math.Bool as Bool
-use Rattle.std.proofs.Math.Option.{Option, none, some}
-use Rattle.saiga.specs.Values.{Value, null, truth, node_of, Applied, gives, overflows, apply}
+use Rattle.std.specs.Prelude.{Option, None as none, Some as some}
+use Rattle.saiga.specs.Values.{Value, null, truth, node_of, apply}
 use Rattle.saiga.specs.Expressions.{Expr}
 use Rattle.saiga.specs.Terms.{Term, val, cond, app, attr, form, put}
 
@@ -27,9 +27,9 @@ step_part inside after (steps_to t) = steps_to (inside t)
 step_part inside after (ends_without why) = ends_without why
 
 -- AppApp: "The run stops instead, and the step is not counted" (F-4).
-unfoldable pub plain_application : Applied → PlainStep
-plain_application (gives v) = steps_to (val v)
-plain_application overflows = ends_without by_overflow
+unfoldable pub plain_application : Option Value → PlainStep
+plain_application (some v) = steps_to (val v)
+plain_application none = ends_without by_overflow
 
 module _ (context : ℕ → ℕ → Expr) where
   -- "On null, all of plain Saiga ends, uncounted. Otherwise σ(n, a, v) takes the place of this part; that counts one."

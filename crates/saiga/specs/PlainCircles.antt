@@ -1,6 +1,6 @@
 -- Circles in plain Saiga (F-9 of document 02): "a question runs for ever exactly if some occurrence comes due inside its own evaluation".
 use Rattle.std.specs.Prelude.{List, ◌⊎◌, ◌≡◌, ℕ}
-use Rattle.std.proofs.Math.Option.{some}
+use Rattle.std.specs.Prelude.{Some as some}
 use Rattle.saiga.specs.Values.{Value, null, node_of}
 use Rattle.saiga.specs.Expressions.{Expr}
 use Rattle.saiga.specs.Terms.{Occurrence, Term, val, cond, app, attr, put}

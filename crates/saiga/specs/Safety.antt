@@ -2,7 +2,7 @@
 -- steps, is one of the figures' rules, and looks at values of the forms which that rule is for. So none of them meets a default of
 -- `truth`, `number`, `node_of`, `apply` or `definition_expr`, or looks past the end of a list.
 use Rattle.std.specs.Prelude.{Bool, List, ◌≡◌, ℕ, ℤ}
-use Rattle.std.proofs.Math.Option.{some}
+use Rattle.std.specs.Prelude.{Some as some}
 use Rattle.saiga.specs.Values.{Base, unit_t, bool_t, int_t, node_t, Ty, base, ◌⇒◌, Value, unit, bool, int, node, Function, function, Holding, holding, function_type, holding_type, null}
 use Rattle.saiga.specs.Expressions.{Expr, expression, read_whole}
 use Rattle.saiga.specs.Types.{attribute_at, infer}

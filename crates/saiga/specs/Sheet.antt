@@ -1,6 +1,6 @@
 -- A sheet read from bytes, stops 1 to 8, and the context σ (document 01, "The sheet" and "Stops by origin").
 use Rattle.std.specs.Prelude.{Bool, true, false, ◌&&◌, cond, List, [], ◌∷◌, ◌++◌, ℕ, zero, suc, ◌+◌, leb, ltb, eqb, length, take, drop, get_or}
-use Rattle.std.proofs.Math.Option.{Option, none, some}
+use Rattle.std.specs.Prelude.{Option, None as none, Some as some}
 use Rattle.saiga.specs.Limits.{sheet_limit, attribute_limit, node_limit, last_kind}
 use Rattle.saiga.specs.Values.{Base, unit_t, node_t, base_of, base, Value, unit, of_bytes, is_word, of_word}
 use Rattle.saiga.specs.Expressions.{Expr, literal, attribute, parameter, Scope, Whole, no_expression, expression, read_whole}

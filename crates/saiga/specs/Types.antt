@@ -1,6 +1,6 @@
 -- The types of expressions (001, figures 5 and 8; document 01, "The sheet": "Typing follows 001").
 use Rattle.std.specs.Prelude.{Bool, true, false, cond, List, ℕ, ◌<◌, eqb, ltb, length, get_or}
-use Rattle.std.proofs.Math.Option.{Option, none, some}
+use Rattle.std.specs.Prelude.{Option, None as none, Some as some}
 use Rattle.saiga.specs.Values.{Base, unit_t, bool_t, node_t, base_code, Ty, base, ◌⇒◌, Value, type_of}
 use Rattle.saiga.specs.Expressions.{Expr, literal, if, application, attribute, this, parameter}
 

@@ -1,23 +1,18 @@
 -- Values and functions (document 01, "Values and functions").
-use Rattle.std.specs.Prelude.{Bool, true, false, not, ◌&&◌, ◌||◌, cond, List, [], ◌∷◌, ℕ, zero, suc, ◌+◌, ◌*◌, ◌-◌, ◌/◌, ◌%◌, ltb, eqb, ℤ, pos, negsuc, ◌+ℤ◌, ◌-ℤ◌}
+use Rattle.std.specs.Prelude.{Bool, true, false, not, ◌&&◌, ◌||◌, cond, List, [], ◌∷◌, ℕ, zero, suc, ◌+◌, ◌*◌, ◌-◌, ◌/◌, ◌%◌, ltb, eqb, ℤ, pos, negsuc, ◌+ℤ◌, ◌-ℤ◌, Option, None as none, Some as some}
 use Rattle.std.specs.Int.Signed.{lt_z, le_z}
 pub use Rattle.saiga.specs.declared.Value.{Value}
 pub use Rattle.saiga.specs.declared.Value.TheVariants.{Unit as unit, Bool as bool, Int as int, Node as node, Function as function, Holding as holding}
+pub use Rattle.saiga.specs.declared.Base.{Base}
+pub use Rattle.saiga.specs.declared.Base.TheVariants.{Unit as unit_t, Bool as bool_t, Int as int_t, Node as node_t}
 pub use Rattle.saiga.specs.declared.Function.{Function}
 pub use Rattle.saiga.specs.declared.Function.TheVariants.{Le as le, EqualInt as equal_int, EqualNode as equal_node, Not as negation, Add as add, Subtract as subtract}
 pub use Rattle.saiga.specs.declared.Holding.{Holding}
 pub use Rattle.saiga.specs.declared.Holding.TheVariants.{Le as le_of, EqualInt as equal_int_of, EqualNode as equal_node_of, Add as add_to, Subtract as subtract_from}
-pub use Rattle.saiga.specs.declared.Sum.{Sum}
-pub use Rattle.saiga.specs.declared.Sum.TheVariants.{Fits as fits, Overflow as beyond}
-pub use Rattle.saiga.specs.declared.Applied.{Applied}
-pub use Rattle.saiga.specs.declared.Applied.TheVariants.{Gives as gives, Overflow as overflows}
 
 -- ---- Types
 
 -- "Base types: 0 Unit, 1 Bool, 2 Int, 3 Node."
-pub data Base : Type 0 where
-  unit_t bool_t int_t node_t : Base
-
 abbrev pub base_code : Base → ℕ
 base_code unit_t = 0
 base_code bool_t = 1
@@ -82,8 +77,8 @@ abbrev pub highest : ℤ
 highest = pos 2147483647
 
 -- "An add or subtract whose exact result lies outside Int has no value" (document 02, F-4).
-unfoldable pub exact : ℤ → Sum
-exact z = cond (lt_z z lowest || lt_z highest z) beyond (fits z)
+unfoldable pub exact : ℤ → Option ℤ
+exact z = cond (lt_z z lowest || lt_z highest z) none (some z)
 
 -- The Bool, the Int and the Node of a value. Accepted questions never meet the other cases (Safety.antt).
 unfoldable pub truth : Value → Bool
@@ -126,24 +121,24 @@ apply_function add v = holding (add_to (number v))
 apply_function subtract v = holding (subtract_from (number v))
 
 -- the Int of a sum that has one
-unfoldable pub summed : Sum → Applied
-summed (fits z) = gives (int z)
-summed beyond = overflows
+unfoldable pub summed : Option ℤ → Option Value
+summed (some z) = some (int z)
+summed none = none
 
-unfoldable pub apply_holding : Holding → Value → Applied
-apply_holding (le_of x) v = gives (bool (le_z x (number v)))
-apply_holding (equal_int_of x) v = gives (bool (equal_z x (number v)))
-apply_holding (equal_node_of x) v = gives (bool (eqb x (node_of v)))
+unfoldable pub apply_holding : Holding → Value → Option Value
+apply_holding (le_of x) v = some (bool (le_z x (number v)))
+apply_holding (equal_int_of x) v = some (bool (equal_z x (number v)))
+apply_holding (equal_node_of x) v = some (bool (eqb x (node_of v)))
 apply_holding (add_to x) v = summed (exact (x +ℤ number v))
 apply_holding (subtract_from x) v = summed (exact (x -ℤ number v))
 
 -- The functional layer of 001's AppApp, which gives a value or overflow. Only add and subtract with both arguments overflow.
-unfoldable pub apply : Value → Value → Applied
-apply unit v = gives unit
-apply (bool b) v = gives unit
-apply (int z) v = gives unit
-apply (node n) v = gives unit
-apply (function f) v = gives (apply_function f v)
+unfoldable pub apply : Value → Value → Option Value
+apply unit v = some unit
+apply (bool b) v = some unit
+apply (int z) v = some unit
+apply (node n) v = some unit
+apply (function f) v = some (apply_function f v)
 apply (holding h) v = apply_holding h v
 
 -- ---- The four-byte form

@@ -3,6 +3,16 @@
 #![tactic(auto)]
 
 pub mod limits;
+pub mod stops;
+
+// The base types by their codes 0 to 3.
+#[derive(Clone, Copy, PartialEq, Eq)]
+pub enum Base {
+    Unit,
+    Bool,
+    Int,
+    Node,
+}
 
 // The functions by their codes 0 to 5.
 #[derive(Clone, Copy)]
@@ -39,25 +49,11 @@ pub enum Value {
     Holding(Holding),
 }
 
-// A sum or a difference: an Int, in the 64 bits in which it was made, or beyond the ends of Int.
-#[derive(Clone, Copy)]
-pub enum Sum {
-    Fits(i64),
-    Overflow,
-}
-
-// What a function gives of an argument: a value, or overflow.
-#[derive(Clone, Copy)]
-pub enum Applied {
-    Gives(Value),
-    Overflow,
-}
-
 // An entry of the store in numbers: its parameter and its value in their four-byte forms, and the code of the value's type.
 #[derive(Clone, Copy)]
 pub struct Fields {
-    pub node: u32,
-    pub attribute: u32,
+    pub node: u16,
+    pub attribute: u8,
     pub code: u8,
     pub parameter: u32,
     pub value: u32,

@@ -1,6 +1,6 @@
 -- What a sheet's bytes and index say at a place, and how a store into the index changes that.
 use mathlib.Core.Bool.{Bool, true, false, cond, ◌&&◌}
-use mathlib.Core.Option.{Option, some}
+use Rattle.std.specs.Prelude.{Option, Some as some}
 use mathlib.Core.List.{List, [], ◌∷◌, ◌++◌}
 use mathlib.Core.Path.{◌≡◌, refl, sym, ap, ◌∙◌}
 use Prim.Native.Nat.{ℕ, zero, suc, ◌+◌, ◌*◌, ◌≤◌, ◌<◌}
@@ -13,7 +13,7 @@ use borrow.Author.Tests.{eqb-true, eqb-false, eq-eqb, ne_eqb}
 use Rattle.saiga.specs.Types.{attribute_at}
 use Rattle.saiga.specs.Sheet.{Sheet, node_count, attribute_count, Forward, Rule, figure_for, rule_for, forward_for, forwarded, ruled, figured, definition}
 use Rattle.sheets.specs.Scan.{figure_place, pieces_at, rule_place, forward_place, attributes_place, nodes_place, figure_at, piece_at, indexed, counted, FigureFits, PieceFits, Described, Indexed}
-use Rattle.values.proofs.Declared.{past, attribute_in, attribute-at}
+use Rattle.values.proofs.Attributes.{past, attribute_in, attribute-at}
 use Rattle.values.specs.Layout.{kind_at, attributes_in, kinds_in}
 
 -- ---- Attributes and kinds
@@ -94,13 +94,7 @@ module _ (bytes : List ℕ) (s : Sheet) (index : List ℕ) (h : Described bytes 
 module _ (bytes : List ℕ) (s : Sheet) (index : List ℕ) (h : Described bytes s index) (a at : ℕ) (q : a < attribute_count s) where
   pub figure-indexed : (n : ℕ) → n < node_count s → FigureFits bytes (node_count s) a at
       → Described bytes
-      record {
-        attributes = s.attributes;
-        kinds = s.kinds;
-        figures = record { node = n; attribute = a; value = figure_at bytes a at } ∷ s.figures;
-        rules = s.rules;
-        forwards = s.forwards;
-      }
+      record s { figures = record { node = n; attribute = a; value = figure_at bytes a at } ∷ s.figures }
       (set index (figure_place n a) (at + 1))
   unfolding figure_for
   figure-indexed n p fits = record {
@@ -144,7 +138,7 @@ module _ (bytes : List ℕ) (s : Sheet) (index : List ℕ) (h : Described bytes 
     piece-indexed : (rules : List Rule) (forwards : List Forward)
         → ((k a : ℕ) → k ≤ 15 → a < attribute_count s → rule_for rules k a ≡ indexed (get_or (set index place (at + 1)) (rule_place k a) 0) (piece_at bytes))
         → ((k : ℕ) → k ≤ 15 → forward_for forwards k ≡ indexed (get_or (set index place (at + 1)) (forward_place k) 0) (piece_at bytes))
-        → Described bytes record { attributes = s.attributes; kinds = s.kinds; figures = s.figures; rules = rules; forwards = forwards } (set index place (at + 1))
+        → Described bytes record s { rules = rules; forwards = forwards } (set index place (at + 1))
     piece-indexed rules forwards rules-are forwards-are = record {
       size = length-set index place (at + 1) ∙ h.size;
       short = h.short;
@@ -167,13 +161,7 @@ module _ (bytes : List ℕ) (s : Sheet) (index : List ℕ) (h : Described bytes 
 
   pub rule-indexed : (k a : ℕ) → k ≤ 15 → a < attribute_count s
       → Described bytes
-      record {
-        attributes = s.attributes;
-        kinds = s.kinds;
-        figures = s.figures;
-        rules = record { kind = k; attribute = a; piece = piece_at bytes at } ∷ s.rules;
-        forwards = s.forwards;
-      }
+      record s { rules = record { kind = k; attribute = a; piece = piece_at bytes at } ∷ s.rules }
       (set index (rule_place k a) (at + 1))
   unfolding rule_for
   rule-indexed k a p q =
@@ -184,13 +172,7 @@ module _ (bytes : List ℕ) (s : Sheet) (index : List ℕ) (h : Described bytes 
 
   pub forward-indexed : (k : ℕ) → k ≤ 15
       → Described bytes
-      record {
-        attributes = s.attributes;
-        kinds = s.kinds;
-        figures = s.figures;
-        rules = s.rules;
-        forwards = record { kind = k; piece = piece_at bytes at } ∷ s.forwards;
-      }
+      record s { forwards = record { kind = k; piece = piece_at bytes at } ∷ s.forwards }
       (set index (forward_place k) (at + 1))
   unfolding forward_for
   forward-indexed k p =

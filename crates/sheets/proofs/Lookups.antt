@@ -1,9 +1,9 @@
 -- What the index of an accepted sheet gives for a figure, for a rule and for a forward.
 use mathlib.Core.Bool.{true, false≢true}
 use mathlib.Core.List.{List}
-use mathlib.Core.Option.{none, some}
+use Rattle.std.specs.Prelude.{None as none, Some as some}
 use mathlib.Core.Path.{◌≡◌, refl, ap, ◌∙◌}
-use Prim.Native.Nat.{ℕ, zero, suc, ◌+◌, ◌-◌, ◌≤◌, ◌<◌}
+use Prim.Native.Nat.{ℕ, zero, suc, ◌+◌, ◌≤◌, ◌<◌}
 use native.Mathlib.Omega.{arith}
 use lib.ListN.{length, take, drop, get_or}
 use Rattle.saiga.specs.Values.{base_of, of_bytes, is_word, of_word}
@@ -11,7 +11,7 @@ use Rattle.saiga.specs.declared.Value.{Value}
 use Rattle.saiga.specs.Sheet.{forwarded, ruled, figured, is_defined, accepted, check_sheet}
 use Rattle.saiga.proofs.FourBytes.{word_more}
 use Rattle.saiga.proofs.Accepted.{pair-defined}
-use Rattle.sheets.specs.Scan.{figure_place, pieces_at, rule_place, forward_place, attributes_place, figure_at, piece_at, indexed, IndexedPair, rule_number, forward_number, PieceHere}
+use Rattle.sheets.specs.Scan.{figure_place, pieces_at, rule_place, forward_place, attributes_place, figure_at, indexed, IndexedPair, rule_number, forward_number, PieceHere}
 use Rattle.sheets.proofs.Indexed.{kind-by-index, definition-by-index}
 use Rattle.values.specs.Layout.{result_at, kind_at}
 
@@ -57,6 +57,9 @@ module _ (bytes index : List ℕ) (n a place number : ℕ) (here : place ≡ fig
 
       pub figure-value : (v : Value) → v ≡ of_word (base_of code) w → some v ≡ indexed (get_or index (figure_place n a) 0) (figure_at bytes a)
       figure-value v value = rw number_is (ap some (value ∙ rw (typed, word)) ∙ figure-here.value)
+
+-- what the look-up of a figure rests on
+pub ruleset figure_laws = (no-figure, figure-room, figure-word, figure-value)
 
 -- ---- A rule, a forward
 
@@ -106,13 +109,3 @@ module _ (bytes index : List ℕ) (n a : ℕ) (h : IndexedPair bytes index n a) 
       let i = h.known in
       let is = rw (← i.attributes-in) at (definition-by-index bytes s index i.described n a h.node h.attribute) in
       false≢true (rw (is, no-figure, no-rule, no-forward) at (pair-defined bytes s ok n a h.node h.attribute))
-
--- the piece itself
-pub piece_is : (bytes : List ℕ) (number size : ℕ) → PieceHere bytes number → size ≡ of_bytes (take 2 (drop number bytes))
-    → take (number + 2 + size - (number + 2)) (drop (number + 2) bytes) ≡ piece_at bytes (number - 1)
-unfolding piece_at
-piece_is bytes number size h e =
-    let width : number + 2 + size - (number + 2) ≡ size = omega arith in
-    let length_at : number - 1 + 1 ≡ number = omega (arith, h.starts) in
-    let piece-at : number - 1 + 3 ≡ number + 2 = omega (arith, h.starts) in
-    rw (width, e, length_at, piece-at)

@@ -1,7 +1,7 @@
 -- The rules and the forwards of a sheet stay noted from command to command.
 use mathlib.Core.Bool.{Bool, true, false, cond, and-eq-true_iff}
 use mathlib.Core.List.{List}
-use mathlib.Core.Option.{Option, none, some}
+use Rattle.std.specs.Prelude.{Option, None as none, Some as some, Result, Ok, Err}
 use mathlib.Core.Path.{◌≡◌, refl, sym, ap, ◌∙◌}
 use Prim.Native.Nat.{ℕ, suc, ◌+◌, ◌-◌, ◌≤◌, ◌<◌}
 use native.Mathlib.Omega.{arith}
@@ -12,15 +12,14 @@ use borrow.Author.Tests.{ltb-true}
 use Rattle.saiga.specs.Values.{of_bytes}
 use Rattle.values.specs.Cells.{emptied}
 use Rattle.values.proofs.Cells.{emptied-inside, emptied-outside}
-use Rattle.expressions.specs.declared.Formed.{Formed}
-use Rattle.expressions.specs.declared.Formed.TheVariants.{Expression}
+use Rattle.expressions.specs.declared.types.«Type».{«Type»}
 use Rattle.expressions.specs.Noted.{Before, NotesWhole}
 use Rattle.expressions.proofs.Noting.{noted-same}
+use Rattle.saiga.specs.Sheet.{refused◌at_place◌, accepted}
+use Rattle.saiga.specs.declared.stops.Refusal.{Refusal}
+use Rattle.sheets.specs.declared.Counts.{Counts}
 use Rattle.sheets.specs.declared.Progress.{Progress}
-use Rattle.sheets.specs.declared.Read.{Read}
-use Rattle.sheets.specs.declared.Read.TheVariants.{Stops, Ends, GoesOn}
-use Rattle.sheets.specs.declared.SheetCheck.{SheetCheck}
-use Rattle.sheets.specs.declared.SheetCheck.TheVariants.{Refused, Accepted}
+use Rattle.sheets.proofs.Told.{told-ends, told-goes-on}
 use Rattle.sheets.specs.Scan.{figure_place, pieces_at, piece_places, attributes_place, nodes_place, index_size, piece_at, Scanned, stops◌at_offset◌, ends, goes_on, demand, scan_attribute, scan_node, scan_figure, scan_end, Reading, PieceAsked, ReadAs, scanned, scan_of}
 use Rattle.sheets.specs.Notes.{PieceNoted, NotedTo, NotesOn, ChecksNotes}
 use Rattle.sheets.proofs.Indexed.{stored-fits}
@@ -70,27 +69,31 @@ module _ (p : Progress) (index : List ℕ) where
       go false = tt
 
   module _ (bytes notes : List ℕ) where
-    steady-notes : (r : Read) (after : List ℕ) (t : Scanned) → ReadAs r after index t → Steady p index t → NotesOn bytes p index notes after notes r
-    steady-notes (Stops number offset) after t s h = tt
-    steady-notes Ends after t s h = λ noted. let same : after ≡ index = rw (← s.read) at s.index_is in rw same noted
-    steady-notes (GoesOn p') after t s h =
-        let (on, same) = rw (← s.read) at h in
+    steady-notes : (r : Result (Option Progress) Refusal) (after : List ℕ) (t : Scanned) → ReadAs p.at r after index t → Steady p index t
+        → NotesOn bytes p index notes after notes r
+    steady-notes (Err r) after t s h = tt
+    steady-notes (Ok none) after t s h = λ noted. let same : after ≡ index = rw (told-ends _ _ _ _ s) at s.index_is in rw same noted
+    steady-notes (Ok (some p')) after t s h =
+        let (on, same) = rw (told-goes-on _ _ _ _ _ s) at h in
         λ noted. record {
           pieces = record { piece = λ place at low high e. noted.pieces.piece place at low high (rw (same place low) at e) };
           stands = λ place at low high e. let before = noted.stands place at low high (rw (same place low) at e) in omega arith;
         }
 
-    pub attribute-notes : (r : Read) → ReadAs r index index (scan_attribute bytes p index) → NotesOn bytes p index notes index notes r
+    pub attribute-notes : (r : Result (Option Progress) Refusal) → ReadAs p.at r index index (scan_attribute bytes p index) → NotesOn bytes p index notes index notes r
     attribute-notes r s = steady-notes r index _ s (attribute-steady bytes)
 
-    pub node-notes : (r : Read) (after : List ℕ) → ReadAs r after index (scan_node bytes p index) → NotesOn bytes p index notes after notes r
+    pub node-notes : (r : Result (Option Progress) Refusal) (after : List ℕ) → ReadAs p.at r after index (scan_node bytes p index) → NotesOn bytes p index notes after notes r
     node-notes r after s = steady-notes r after _ s (node-steady bytes)
 
-    pub figure-notes : (r : Read) (after : List ℕ) → Reading bytes p → ReadAs r after index (scan_figure bytes p index) → NotesOn bytes p index notes after notes r
+    pub figure-notes : (r : Result (Option Progress) Refusal) (after : List ℕ) → Reading bytes p → ReadAs p.at r after index (scan_figure bytes p index)
+        → NotesOn bytes p index notes after notes r
     figure-notes r after known s = steady-notes r after _ s (figure-steady bytes known)
 
-    pub end-notes : (r : Read) → ReadAs r index index (scan_end bytes p) → NotesOn bytes p index notes index notes r
+    pub end-notes : (r : Result (Option Progress) Refusal) → ReadAs p.at r index index (scan_end bytes p) → NotesOn bytes p index notes index notes r
     end-notes r s = steady-notes r index _ s (end-steady bytes)
+
+pub ruleset steady_laws = (attribute-notes, node-notes, figure-notes, end-notes)
 
 -- ---- A command with a piece
 
@@ -108,8 +111,8 @@ module _ (bytes index notes notes' : List ℕ) (from before n place : ℕ) where
   piece-stays at older stands noted =
       noted-same noted λ i h. get_or-drop (at + 3) notes' i 0 ∙ older (at + 3 + i) (omega arith) ∙ sym (get_or-drop (at + 3) notes i 0)
 
-  pub piece-notes : {t : ℕ} {formed : Formed} → n ≡ of_bytes (take 2 (drop (before + 1) bytes)) → length index ≡ index_size → PieceAsked bytes from place before
-      → NotesWhole piece (before + 3) notes notes' formed → formed ≡ Expression t
+  pub piece-notes : {found : Option «Type»} {r : Option (Option «Type»)} → n ≡ of_bytes (take 2 (drop (before + 1) bytes)) → length index ≡ index_size → PieceAsked bytes from place before
+      → NotesWhole piece (before + 3) notes notes' r → r ≡ some found
       → NotedTo bytes index notes from → NotedTo bytes (set index place (before + 1)) notes' (before + 3 + n)
   piece-notes size index-size asked read is noted =
       let here = piece_is size in
@@ -139,36 +142,14 @@ first-notes bytes first cleared notes size e =
     }
 
 -- the pass is over, and the numbers of attributes and nodes are put behind the part of the index for pieces
-pub last-notes : (bytes notes : List ℕ) (p : Progress) (after last : List ℕ) (check : SheetCheck) (gap : Option ℕ) → scan_of check last ≡ scanned p after gap
+pub last-notes : (bytes notes : List ℕ) (p : Progress) (after last : List ℕ) (check : Result Counts Refusal) (gap : Option ℕ) → scan_of check last ≡ scanned p after gap
     → NotedTo bytes after notes p.at → ChecksNotes bytes check last notes
 unfolding scanned
-last-notes bytes notes p after last check none e noted =
-    let is : check ≡ Accepted p.attributes p.nodes = ap (λ s. s.check) e in
+last-notes bytes notes p after last (Err r) gap e noted = tt
+last-notes bytes notes p after last (Ok counts) none e noted =
     let index_is = ap (λ s. s.index) e in
-    rw is (record {
+    record {
       piece = λ place at low high h. noted.pieces.piece place at low high
           (sym (get_or-set_other (set after attributes_place p.attributes) nodes_place place p.nodes 0 (omega arith) ∙ get_or-set_other after attributes_place place p.attributes 0 (omega arith)) ∙ rw index_is at h);
-    })
-last-notes bytes notes p after last check (some place) e noted = let is : check ≡ Refused 8 place = ap (λ s. s.check) e in rw is tt
-
--- the pieces so far are noted, and the notes have their length
-pub record NotedPass (bytes first index notes : List ℕ) (p : Progress) : Type 0 where
-  pub noted : NotedTo bytes index notes p.at
-  pub size : length notes ≡ length first
-
-pub pass-start : (bytes first cleared notes : List ℕ) (p : Progress) → length first ≡ index_size → cleared ≡ emptied first pieces_at piece_places → p.at ≡ 0
-    → NotedPass bytes notes cleared notes p
-pass-start bytes first cleared notes p size e here = record { noted = rw here (first-notes bytes first cleared notes size e); size = refl }
-
-pub pass-next : (bytes first index notes index' notes' : List ℕ) (p p' : Progress) {r : Read} → NotedPass bytes first index notes p
-    → NotesOn bytes p index notes index' notes' r → r ≡ GoesOn p' → length notes' ≡ length notes → NotedPass bytes first index' notes' p'
-pass-next bytes first index notes index' notes' p p' pass on is size =
-    let further = rw is at on in
-    record { noted = further pass.noted; size = size ∙ pass.size }
-
-module _ (bytes first index notes : List ℕ) (p : Progress) (pass : NotedPass bytes first index notes p) where
-  pub pass-over : (after notes' last : List ℕ) (check : SheetCheck) (gap : Option ℕ) {r : Read} → NotesOn bytes p index notes after notes' r → r ≡ Ends
-      → scan_of check last ≡ scanned p after gap → ChecksNotes bytes check last notes'
-  pass-over after notes' last check gap on is e =
-      let kept = rw is at on in
-      last-notes bytes notes' p after last check gap e (kept pass.noted)
+    }
+last-notes bytes notes p after last (Ok counts) (some place) e noted = let same : accepted counts ≡ refused 8 at_place place = ap (λ s. s.check) e in absurd (cc)

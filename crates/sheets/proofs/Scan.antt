@@ -1,7 +1,7 @@
 -- The pass over a sheet is the check of the sheet, stop for stop and place for place, and the index that it leaves is the accepted
 -- sheet's. Between two commands the pass and the check stand at one offset and one part, and the index describes the sheet so far.
 use mathlib.Core.Bool.{Bool, true, false, not, cond, ◌&&◌, ◌||◌, and_comm, and-eq-true_iff}
-use mathlib.Core.Option.{Option, none, some}
+use Rattle.std.specs.Prelude.{Option, None as none, Some as some, Result, Err}
 use mathlib.Core.List.{List, [], ◌∷◌, ◌++◌}
 use mathlib.Core.Path.{◌≡◌, refl, sym, ap, ◌∙◌, subst}
 use Prim.Native.Nat.{ℕ, zero, suc, ◌+◌, ◌*◌, ◌≤◌, ◌<◌}
@@ -12,17 +12,21 @@ use lib.Dec.{leb, ltb, eqb, eqb-suc-zero}
 use lib.ListN.{length, take, drop, get_or, length-append, length-drop, drop_of_length-le, get_or-append}
 use lib.Seq.{drop-cons, drop-drop, get_or-drop, get_or-append_seam, length-take-le}
 use borrow.Author.Tests.{leb-true, leb-false, ltb-true, ltb-false, eqb-true, eqb-false, le-leb, lt-leb}
-use Rattle.saiga.specs.Values.{Base, of_bytes, is_word}
+use Rattle.saiga.specs.Values.{of_bytes, is_word}
+use Rattle.saiga.specs.declared.Base.{Base}
+use Rattle.saiga.specs.declared.stops.Refusal.{Refusal}
+use Rattle.saiga.specs.declared.stops.Stop.TheVariants.{SheetTooLong}
 use Rattle.saiga.specs.Expressions.{Expr, Scope, Whole, no_expression, expression, read_whole}
 use Rattle.saiga.specs.Types.{attribute_at}
 use Rattle.saiga.specs.Gaps.{first_gap}
 use Rattle.saiga.specs.Sheet.{Sheet, empty_sheet, node_count, attribute_count, figure_for, rule_for, forward_for, rule_scope, forward_scope, forwarded, ruled, figured, definition, is_defined, defines, Command, attribute_command, node_command, figure_command, rule_command, forward_command, end_command, no_command, command_of, Read, stops◌at_offset◌ as read-stops◌at_offset◌, ends as read-ends, goes_on as read-on, require, is_none, read_attribute, read_node, read_figure, require_piece, read_rule, read_forward, read_end, read_command, read_next, Checked, refused◌at_place◌, accepted, complete, read_commands, check_sheet}
 use Rattle.saiga.proofs.Inference.{cond-passes}
 use Rattle.saiga.proofs.Gaps.{one_more, same_gap}
+use Rattle.sheets.specs.declared.Counts.{Counts}
+use Rattle.sheets.specs.declared.Part.{Part}
+use Rattle.sheets.specs.declared.Part.TheVariants.{Attributes, Nodes, Rules}
 use Rattle.sheets.specs.declared.Progress.{Progress}
-use Rattle.sheets.specs.declared.SheetCheck.{SheetCheck}
-use Rattle.sheets.specs.declared.SheetCheck.TheVariants.{Refused, Accepted}
-use Rattle.sheets.specs.Scan.{figure_place, pieces_at, piece_places, rule_place, forward_place, attributes_place, index_size, figure_at, piece_at, indexed, Scanned, stops◌at_offset◌, ends, goes_on, demand, scan_attribute, scan_node, scan_figure, demand_piece, scan_piece, scan_rule, scan_forward, scan_end, scan_at, scan_command, pair_indexed, is_indexed, missing_in, Scan, scanned, scan_from, start, scan_sheet, check_of, PieceFits, Described, Indexed, scan_of, Checks}
+use Rattle.sheets.specs.Scan.{figure_place, pieces_at, piece_places, rule_place, forward_place, attributes_place, index_size, figure_at, piece_at, indexed, part_number, Scanned, stops◌at_offset◌, ends, goes_on, demand, scan_attribute, scan_node, scan_figure, demand_piece, scan_piece, scan_rule, scan_forward, scan_end, scan_at, scan_command, pair_indexed, is_indexed, missing_in, Scan, scanned, scan_from, start, scan_sheet, counts_of, check_of, PieceFits, Described, Indexed, scan_of, Checks}
 use Rattle.values.specs.Cells.{emptied}
 use Rattle.values.specs.Layout.{result_at, parameter_at, kind_at, attributes_in, kinds_in}
 use Rattle.values.proofs.Cells.{emptied-length, emptied-inside, emptied-outside}
@@ -57,11 +61,11 @@ module _ (bytes : List ℕ) (s : Sheet) (index : List ℕ) (h : Described bytes 
 
 -- ---- Between two commands
 
-abbrev pub progress : Sheet → ℕ → ℕ → Progress
+abbrev pub progress : Sheet → ℕ → Part → Progress
 progress s at part = record { at = at; part = part; attributes = attribute_count s; nodes = node_count s }
 
 -- Attributes and nodes are declared where there is no figure, no rule and no forward yet, so each of those is checked on all that is declared.
-record Declaring (bytes : List ℕ) (s : Sheet) (at part : ℕ) (index : List ℕ) : Type 0 where
+record Declaring (bytes : List ℕ) (s : Sheet) (at : ℕ) (part : Part) (index : List ℕ) : Type 0 where
   size : length index ≡ index_size
   short : length bytes ≤ 65536
   attributes_are : s.attributes ≡ attributes_in bytes (attribute_count s)
@@ -72,18 +76,18 @@ record Declaring (bytes : List ℕ) (s : Sheet) (at part : ℕ) (index : List �
   nodes_bound : node_count s ≤ 1024
   types_bound : (a : ℕ) → a < attribute_count s → (result_at bytes a < 4) × (parameter_at bytes a < 4)
   kinds_bound : (n : ℕ) → n < node_count s → get_or s.kinds n 0 ≤ 15
-  no-nodes : part ≤ 0 → s.kinds ≡ []
+  no-nodes : part_number part ≤ 0 → s.kinds ≡ []
   no-figures : s.figures ≡ []
   no-rules : s.rules ≡ []
   no-forwards : s.forwards ≡ []
   clear-rows : (n : ℕ) → n < node_count s → (a : ℕ) → a < 32 → get_or index (figure_place n a) 0 ≡ 0
   clear-pieces : (place : ℕ) → pieces_at ≤ place → place < attributes_place → get_or index place 0 ≡ 0
 
-pub record SoFar (bytes : List ℕ) (s : Sheet) (at part : ℕ) (index : List ℕ) : Type 0 where
+pub record SoFar (bytes : List ℕ) (s : Sheet) (at : ℕ) (part : Part) (index : List ℕ) : Type 0 where
   pub known : Described bytes s index
-  declaring : part ≤ 1 → Declaring bytes s at part index
+  declaring : part_number part ≤ 1 → Declaring bytes s at part index
 
-declared : {bytes : List ℕ} {s : Sheet} {at part : ℕ} {index : List ℕ} → Declaring bytes s at part index → SoFar bytes s at part index
+declared : {bytes : List ℕ} {s : Sheet} {at : ℕ} {part : Part} {index : List ℕ} → Declaring bytes s at part index → SoFar bytes s at part index
 unfolding figure_for rule_for forward_for indexed
 declared d = record {
   known = record {
@@ -105,12 +109,12 @@ declared d = record {
   declaring = λ p. d;
 }
 
--- What reading the command at `at` comes to, by the check and by the pass.
+-- What reading the command at `at` comes to, by the check and by the pass. A command that is read takes a byte and more, and lies within the sheet's.
 pub data Agrees (bytes : List ℕ) (at : ℕ) : Read → Scanned → Type 0 where
   stop : {number offset : ℕ} → Agrees bytes at (read-stops number at_offset offset) (stops number at_offset offset)
   end : Agrees bytes at read-ends ends
-  next : {width part : ℕ} {s : Sheet} {p : Progress} {index : List ℕ} → p ≡ progress s (at + width) part → SoFar bytes s (at + width) part index
-      → Agrees bytes at (read-on record { width = width; part = part; sheet = s }) (goes_on p index)
+  next : {width : ℕ} {part : Part} {s : Sheet} {p : Progress} {index : List ℕ} → 0 < width → at + width ≤ length bytes → p ≡ progress s (at + width) part → SoFar bytes s (at + width) part index
+      → Agrees bytes at (read-on record { width = width; part = part_number part; sheet = s }) (goes_on p index)
 
 -- What follows a test may rest on it.
 module _ (bytes : List ℕ) (at : ℕ) where
@@ -166,26 +170,27 @@ length-snoc l x = length-append l (x ∷ []) ∙ add-one (length l)
 read_short : (c : Scope) (l : List ℕ) (e : Expr) → read_whole c l ≡ expression e → length l ≤ 256
 unfolding read_whole
 read_short c l e r =
-    leb-true (length l) 256 (cond-passes (leb (length l) 256) r (λ x. let z : ◌≡◌ {A = ℕ} 0 1 = cc in omega arith)).0
+    leb-true (length l) 256 (cond-passes (leb (length l) 256) r (λ x. cc)).0
 
-module _ (bytes : List ℕ) (s : Sheet) (at part : ℕ) (index : List ℕ) (h : SoFar bytes s at part index) (inside : at < length bytes) where
-  attribute-agrees : Agrees bytes at (read_attribute s part (drop (at + 1) bytes)) (scan_attribute bytes (progress s at part) index)
+module _ (bytes : List ℕ) (s : Sheet) (at : ℕ) (part : Part) (index : List ℕ) (h : SoFar bytes s at part index) (inside : at < length bytes) where
+  attribute-agrees : Agrees bytes at (read_attribute s (part_number part) (drop (at + 1) bytes)) (scan_attribute bytes (progress s at part) index)
   unfolding read_attribute scan_attribute kinds_in
   attribute-agrees =
-      require-both-agrees bytes at (leb part 0) _ _ _ refl (λ first. long bytes at inside 2) 2 _ _ λ first fits.
+      require-both-agrees bytes at (leb (part_number part) 0) _ _ _ refl (λ first. long bytes at inside 2) 2 _ _ λ first long.
       require-agrees bytes at (ltb (attribute_count s) 32) _ refl 3 _ _ λ room.
       rw (operand bytes at 0, operand bytes at 1)
       (require-both-agrees bytes at (ltb (get_or bytes (at + 1) 0) 4) (ltb (get_or bytes (at + 2) 0) 4) _ _ refl (λ result. refl) 4 _ _ λ result parameter.
       let d = h.declaring (omega (arith, tests)) in
       let no-kinds = d.no-nodes (omega (arith, tests)) in
       let here : at ≡ 3 * attribute_count s = d.reached ∙ rw no-kinds (omega arith) in
-      next (rw length-append) (declared record {
+      let fits : at + 3 ≤ length bytes = omega (arith, tests, length-drop (at + 1) bytes) in
+      next {part = Attributes} (omega arith) fits (rw length-append) (declared record {
         size = d.size;
         short = d.short;
         attributes_are = rw (length-snoc, attributes-snoc, ← here, ← d.attributes_are);
         kinds_are = rw no-kinds;
         reached = rw (no-kinds, length-snoc) (omega arith);
-        within = omega (arith, tests, length-drop (at + 1) bytes);
+        within = fits;
         attributes_bound = rw length-snoc (omega (arith, tests));
         nodes_bound = d.nodes_bound;
         types_bound = rw length-snoc (one_more _ (attribute_count s) d.types_bound (rw (← here) (omega (arith, tests))));
@@ -198,22 +203,23 @@ module _ (bytes : List ℕ) (s : Sheet) (at part : ℕ) (index : List ℕ) (h : 
         clear-pieces = d.clear-pieces;
       }))
 
-  node-agrees : Agrees bytes at (read_node s part (drop (at + 1) bytes)) (scan_node bytes (progress s at part) index)
+  node-agrees : Agrees bytes at (read_node s (part_number part) (drop (at + 1) bytes)) (scan_node bytes (progress s at part) index)
   unfolding read_node scan_node
   node-agrees =
-      require-both-agrees bytes at (leb part 1) _ _ _ refl (λ early. long bytes at inside 1) 2 _ _ λ early fits.
+      require-both-agrees bytes at (leb (part_number part) 1) _ _ _ refl (λ early. long bytes at inside 1) 2 _ _ λ early long.
       require-agrees bytes at (ltb (node_count s) 1024) _ refl 3 _ _ λ room.
       rw (operand bytes at 0)
       (require-agrees bytes at (leb (get_or bytes (at + 1) 0) 15) _ refl 4 _ _ λ kind.
       let d = h.declaring (omega (arith, tests)) in
       let here : 3 * attribute_count s + (2 * node_count s + 1) ≡ at + 1 = omega arith in
-      next (rw length-append) (declared record {
+      let fits : at + 2 ≤ length bytes = omega (arith, tests, length-drop (at + 1) bytes) in
+      next {part = Nodes} (omega arith) fits (rw length-append) (declared record {
         size = emptied-length index (figure_place (node_count s) 0) 32 ∙ d.size;
         short = d.short;
         attributes_are = d.attributes_are;
         kinds_are = rw (length-snoc, kinds-snoc, get_or-drop, here, ← d.kinds_are);
         reached = rw length-snoc (omega arith);
-        within = omega (arith, tests, length-drop (at + 1) bytes);
+        within = fits;
         attributes_bound = d.attributes_bound;
         nodes_bound = rw length-snoc (omega (arith, tests));
         types_bound = d.types_bound;
@@ -227,7 +233,7 @@ module _ (bytes : List ℕ) (s : Sheet) (at part : ℕ) (index : List ℕ) (h : 
         clear-pieces = λ place low high. emptied-outside index (figure_place (node_count s) 0) 32 place (omega (arith, tests)) ∙ d.clear-pieces place low high;
       }))
 
-  figure-agrees : Agrees bytes at (read_figure s part (drop (at + 1) bytes)) (scan_figure bytes (progress s at part) index)
+  figure-agrees : Agrees bytes at (read_figure s (part_number part) (drop (at + 1) bytes)) (scan_figure bytes (progress s at part) index)
   unfolding read_figure scan_figure figure_at
   figure-agrees =
       let n = of_bytes (take 2 (drop (at + 1) bytes)) in
@@ -235,15 +241,16 @@ module _ (bytes : List ℕ) (s : Sheet) (at part : ℕ) (index : List ℕ) (h : 
       let w = of_bytes (take 4 (drop (at + 4) bytes)) in
       let t = (attribute_at s.attributes a).result in
       rw (operand bytes at 2, operands bytes at 3)
-      (require-both-agrees bytes at (leb part 2) _ _ _ refl (λ early. long bytes at inside 7) 2 _ _ λ early fits.
+      (require-both-agrees bytes at (leb (part_number part) 2) _ _ _ refl (λ early. long bytes at inside 7) 2 _ _ λ early long.
       require-both-agrees bytes at (ltb n (node_count s) && ltb a (attribute_count s)) (is_word (node_count s) t w) _ _ refl
       (λ declared. rw (attribute-by-index bytes s index h.known a (is_declared n a declared).1)) 4 _ _ λ declared word.
       let p = (is_declared n a declared).0 in
       let q = (is_declared n a declared).1 in
       let here = attribute-by-index bytes s index h.known a q in
       require-agrees bytes at (is_none (figure_for s.figures n a)) _ (rw (h.known.figures n a p q) (is-indexed _ _)) 5 _ _ λ new.
-      next refl record {
-        known = rw here (figure-indexed bytes s index h.known a at q n p (omega (arith, tests, length-drop (at + 1) bytes), rw here at word));
+      let fits : at + 8 ≤ length bytes = omega (arith, tests, length-drop (at + 1) bytes) in
+      next (omega arith) fits refl record {
+        known = rw here (figure-indexed bytes s index h.known a at q n p (fits, rw here at word));
         declaring = λ p. absurd (omega arith);
       })
     where
@@ -265,7 +272,7 @@ module _ (bytes : List ℕ) (s : Sheet) (at part : ℕ) (index : List ℕ) (h : 
       let short : n ≤ 256 = omega (arith, read_short sc _ e read, length-take-le n (drop (before + 3) bytes) (omega (arith, length-drop (before + 3) bytes))) in
       (rw is at fits, rw is at short)
 
-  rule-agrees : Agrees bytes at (read_rule s part (drop (at + 1) bytes)) (scan_rule bytes (progress s at part) index)
+  rule-agrees : Agrees bytes at (read_rule s (part_number part) (drop (at + 1) bytes)) (scan_rule bytes (progress s at part) index)
   unfolding read_rule scan_rule scan_piece rule_scope piece_at
   rule-agrees =
       let k = get_or bytes (at + 1) 0 in
@@ -274,20 +281,20 @@ module _ (bytes : List ℕ) (s : Sheet) (at part : ℕ) (index : List ℕ) (h : 
       let length_at : at + 2 + 1 ≡ at + 3 = omega arith in
       let piece-at : at + 2 + 3 ≡ at + 5 = omega arith in
       rw (operand bytes at 0, operand bytes at 1, operands bytes at 2, operands bytes at 4, length_at, piece-at)
-      (require-agrees bytes at (leb part 3 && leb (4 + n) (length (drop (at + 1) bytes)) && leb 4 (length (drop (at + 1) bytes))) _
-      (piece-long bytes at inside (leb part 3) 4 n) 2 _ _ λ test.
-      let fits = piece-room bytes at inside (leb part 3) 4 n test in
+      (require-agrees bytes at (leb (part_number part) 3 && leb (4 + n) (length (drop (at + 1) bytes)) && leb 4 (length (drop (at + 1) bytes))) _
+      (piece-long bytes at inside (leb (part_number part) 3) 4 n) 2 _ _ λ test.
+      let fits = piece-room bytes at inside (leb (part_number part) 3) 4 n test in
       require-both-agrees bytes at (leb k 15) (ltb a (attribute_count s)) _ _ refl (λ kind. refl) 4 _ _ λ kind declared.
       require-agrees bytes at (is_none (rule_for s.rules k a)) _
       (rw (h.known.rules k a (omega (arith, tests)) (omega (arith, tests))) (is-indexed _ _)) 5 _ _ λ new.
       rw (attribute-by-index bytes s index h.known a (omega (arith, tests)))
       (require-piece-agrees _ _ _ _ _ λ e read.
-      next (rw add_assoc) record {
+      next {part = Rules} (omega arith) (rw (← add_assoc) fits) (rw add_assoc) record {
         known = rw (piece-at, length_at) at (rule-indexed bytes s index h.known (at + 2) (piece-fit (at + 2) n (rule_scope s) e (rw length_at) (rw piece-at fits) (rw piece-at read)) k a (omega (arith, tests)) (omega (arith, tests)));
         declaring = λ p. absurd (omega arith);
       }))
 
-  forward-agrees : Agrees bytes at (read_forward s part (drop (at + 1) bytes)) (scan_forward bytes (progress s at part) index)
+  forward-agrees : Agrees bytes at (read_forward s (part_number part) (drop (at + 1) bytes)) (scan_forward bytes (progress s at part) index)
   unfolding read_forward scan_forward scan_piece forward_scope piece_at
   forward-agrees =
       let k = get_or bytes (at + 1) 0 in
@@ -295,13 +302,13 @@ module _ (bytes : List ℕ) (s : Sheet) (at part : ℕ) (index : List ℕ) (h : 
       let length_at : at + 1 + 1 ≡ at + 2 = omega arith in
       let piece-at : at + 1 + 3 ≡ at + 4 = omega arith in
       rw (operand bytes at 0, operands bytes at 1, operands bytes at 3, length_at, piece-at)
-      (require-agrees bytes at (leb part 3 && leb (3 + n) (length (drop (at + 1) bytes)) && leb 3 (length (drop (at + 1) bytes))) _
-      (piece-long bytes at inside (leb part 3) 3 n) 2 _ _ λ test.
-      let fits = piece-room bytes at inside (leb part 3) 3 n test in
+      (require-agrees bytes at (leb (part_number part) 3 && leb (3 + n) (length (drop (at + 1) bytes)) && leb 3 (length (drop (at + 1) bytes))) _
+      (piece-long bytes at inside (leb (part_number part) 3) 3 n) 2 _ _ λ test.
+      let fits = piece-room bytes at inside (leb (part_number part) 3) 3 n test in
       require-agrees bytes at (leb k 15) _ refl 4 _ _ λ kind.
       require-agrees bytes at (is_none (forward_for s.forwards k)) _ (rw (h.known.forwards k (omega (arith, tests))) (is-indexed _ _)) 5 _ _ λ new.
       require-piece-agrees _ _ _ _ _ λ e read.
-      next (rw add_assoc) record {
+      next {part = Rules} (omega arith) (rw (← add_assoc) fits) (rw add_assoc) record {
         known = rw (piece-at, length_at) at (forward-indexed bytes s index h.known (at + 1) (piece-fit (at + 1) n (forward_scope s) e (rw length_at) (rw piece-at fits) (rw piece-at read)) k (omega (arith, tests)));
         declaring = λ p. absurd (omega arith);
       })
@@ -314,7 +321,7 @@ module _ (bytes : List ℕ) (s : Sheet) (at part : ℕ) (index : List ℕ) (h : 
       go true e = rw (drop_of_length-le bytes {i = at + 1} (omega (arith, eqb-true))) end
       go false e = let later : at + 1 < length bytes = omega (arith, eqb-false (at + 1) (length bytes) e) in rw (drop-cons bytes (at + 1) 0) stop
 
-  command-agrees : (c : Command) → Agrees bytes at (read_command s part c (drop (at + 1) bytes)) (scan_at bytes (progress s at part) index c)
+  command-agrees : (c : Command) → Agrees bytes at (read_command s (part_number part) c (drop (at + 1) bytes)) (scan_at bytes (progress s at part) index c)
   unfolding read_command scan_at
   command-agrees attribute_command = attribute-agrees
   command-agrees node_command = node-agrees
@@ -324,13 +331,13 @@ module _ (bytes : List ℕ) (s : Sheet) (at part : ℕ) (index : List ℕ) (h : 
   command-agrees end_command = end-agrees
   command-agrees no_command = stop
 
-pub next-agrees : (bytes : List ℕ) (s : Sheet) (at part : ℕ) (index : List ℕ) → SoFar bytes s at part index
-    → Agrees bytes at (read_next s part (drop at bytes)) (scan_command bytes (progress s at part) index)
+pub next-agrees : (bytes : List ℕ) (s : Sheet) (at : ℕ) (part : Part) (index : List ℕ) → SoFar bytes s at part index
+    → Agrees bytes at (read_next s (part_number part) (drop at bytes)) (scan_command bytes (progress s at part) index)
 unfolding read_next scan_command
 next-agrees bytes s at part index h = go (ltb at (length bytes)) refl
   where
     go : (b : Bool) → ltb at (length bytes) ≡ b
-        → Agrees bytes at (read_next s part (drop at bytes)) (cond b (scan_at bytes (progress s at part) index (command_of (get_or bytes at 0))) (stops 2 at_offset 0))
+        → Agrees bytes at (read_next s (part_number part) (drop at bytes)) (cond b (scan_at bytes (progress s at part) index (command_of (get_or bytes at 0))) (stops 2 at_offset 0))
     go true e =
         let inside = ltb-true at (length bytes) e in
         rw (drop-cons bytes at 0 inside, ← (add-one at)) (command-agrees bytes s at part index h inside (command_of (get_or bytes at 0)))
@@ -340,11 +347,11 @@ next-agrees bytes s at part index h = go (ltb at (length bytes)) refl
 
 -- What the check and the pass come to.
 abbrev Outcome : List ℕ → Checked Sheet → Scan → Type 0
-Outcome bytes (refused number at_place place) r = r.check ≡ Refused number place
-Outcome bytes (accepted s) r = (r.check ≡ Accepted (attribute_count s) (node_count s)) × Indexed bytes s r.index
+Outcome bytes (refused number at_place place) r = r.check ≡ refused number at_place place
+Outcome bytes (accepted s) r = (r.check ≡ accepted (counts_of s)) × Indexed bytes s r.index
 
-commands-agree : (bytes : List ℕ) (k : ℕ) (s : Sheet) (at part : ℕ) (index : List ℕ) → SoFar bytes s at part index
-    → Outcome bytes (read_commands k s part at (drop at bytes)) (scan_from k bytes (progress s at part) index)
+commands-agree : (bytes : List ℕ) (k : ℕ) (s : Sheet) (at : ℕ) (part : Part) (index : List ℕ) → SoFar bytes s at part index
+    → Outcome bytes (read_commands k s (part_number part) at (drop at bytes)) (scan_from k bytes (progress s at part) index)
 unfolding read_commands scan_from complete scanned
 commands-agree bytes zero s at part index h = refl
 commands-agree bytes (suc k) s at part index h = go (commands-agree bytes k) _ _ refl refl (next-agrees bytes s at part index h)
@@ -353,17 +360,17 @@ commands-agree bytes (suc k) s at part index h = go (commands-agree bytes k) _ _
     finish none = (refl, counted-indexed bytes s index h.known)
     finish (some place) = refl
 
-    go : ((s' : Sheet) (at' part' : ℕ) (index' : List ℕ) → SoFar bytes s' at' part' index'
-        → Outcome bytes (read_commands k s' part' at' (drop at' bytes)) (scan_from k bytes (progress s' at' part') index'))
-        → (r : Read) (t : Scanned) → read_next s part (drop at bytes) ≡ r → scan_command bytes (progress s at part) index ≡ t → Agrees bytes at r t
-        → Outcome bytes (read_commands (suc k) s part at (drop at bytes)) (scan_from (suc k) bytes (progress s at part) index)
+    go : ((s' : Sheet) (at' : ℕ) (part' : Part) (index' : List ℕ) → SoFar bytes s' at' part' index'
+        → Outcome bytes (read_commands k s' (part_number part') at' (drop at' bytes)) (scan_from k bytes (progress s' at' part') index'))
+        → (r : Read) (t : Scanned) → read_next s (part_number part) (drop at bytes) ≡ r → scan_command bytes (progress s at part) index ≡ t → Agrees bytes at r t
+        → Outcome bytes (read_commands (suc k) s (part_number part) at (drop at bytes)) (scan_from (suc k) bytes (progress s at part) index)
     go ih r t e f stop = rw (e, read_commands, f, scan_from)
     go ih r t e f end =
         rw (e, read_commands, f, scan_from, gap_is bytes s index h.known)
         (finish (missing_in bytes index (attribute_count s) (node_count s)))
-    go ih r t e f (next same so_far) = rw (e, read_commands, f, scan_from, drop-drop, same) (ih _ _ _ _ so_far)
+    go ih r t e f (next wide fits same so_far) = rw (e, read_commands, f, scan_from, drop-drop, same) (ih _ _ _ _ so_far)
 
-pub start-so-far : (bytes index : List ℕ) → length bytes ≤ 65536 → length index ≡ index_size → SoFar bytes empty_sheet 0 0 (emptied index pieces_at piece_places)
+pub start-so-far : (bytes index : List ℕ) → length bytes ≤ 65536 → length index ≡ index_size → SoFar bytes empty_sheet 0 Attributes (emptied index pieces_at piece_places)
 unfolding attributes_in kinds_in
 start-so-far bytes index short size = declared record {
   size = emptied-length index pieces_at piece_places ∙ size;
@@ -390,10 +397,10 @@ sheet-agrees bytes index size = go (leb (length bytes) 65536) refl
   where
     go : (b : Bool) → leb (length bytes) 65536 ≡ b
         → Outcome bytes (cond b (read_commands (suc (length bytes)) empty_sheet 0 0 bytes) (refused 1 at_place 0))
-        (cond b (scan_from (suc (length bytes)) bytes start (emptied index pieces_at piece_places)) record { check = Refused 1 0; index = index })
+        (cond b (scan_from (suc (length bytes)) bytes start (emptied index pieces_at piece_places)) record { check = refused 1 at_place 0; index = index })
     go false e = refl
     go true e =
-        commands-agree bytes (suc (length bytes)) empty_sheet 0 0 (emptied index pieces_at piece_places)
+        commands-agree bytes (suc (length bytes)) empty_sheet 0 Attributes (emptied index pieces_at piece_places)
         (start-so-far bytes index (leb-true (length bytes) 65536 e) size)
 
 pub scan-checks : (bytes index : List ℕ) → length index ≡ index_size → (scan_sheet bytes index).check ≡ check_of (check_sheet bytes)
@@ -414,17 +421,17 @@ unfolding check_sheet
 long-refused bytes h = rw (lt-leb _ _ h)
 
 module _ (bytes index : List ℕ) where
-  pub long-checks : length index ≡ index_size → 65536 < length bytes → Checks bytes (Refused 1 0) index
+  pub long-checks : (r : Refusal) → (r.stop ≡ SheetTooLong) × (r.place ≡ 0) → length index ≡ index_size → 65536 < length bytes → Checks bytes (Err r) index
   unfolding check_of
-  long-checks size h =
+  long-checks r (number, place) size h =
       let e = long-refused bytes h in
-      record { size = size; checked = rw e; indexes = λ s f. absurd (let z : ◌≡◌ {A = ℕ} 0 1 = cc in omega arith) }
+      record { size = size; checked = rw (number, place, e); indexes = λ s f. absurd (cc) }
 
   pass-is : length bytes ≤ 65536 → scan_sheet bytes index ≡ scan_from (suc (length bytes)) bytes start (emptied index pieces_at piece_places)
   unfolding scan_sheet
   pass-is h = rw (le-leb _ _ h)
 
-  pub short-checks : (r : SheetCheck) (after : List ℕ) → length index ≡ index_size → length after ≡ index_size → length bytes ≤ 65536
+  pub short-checks : (r : Result Counts Refusal) (after : List ℕ) → length index ≡ index_size → length after ≡ index_size → length bytes ≤ 65536
       → scan_of r after ≡ scan_from (suc (length bytes)) bytes start (emptied index pieces_at piece_places) → Checks bytes r after
   short-checks r after size left h e =
       let same = e ∙ sym (pass-is h) in

@@ -1,25 +1,24 @@
 -- The check of a sheet as the code makes it: one pass that keeps, beside the offset reached, the counts of attributes and nodes and an
 -- index of where each figure, each rule and each forward stands. Scan.antt of proofs/ shows that it is check_sheet.
 use Rattle.std.specs.Prelude.{Bool, true, false, not, ◌&&◌, ◌||◌, cond, List, ◌≡◌, ℕ, zero, suc, ◌+◌, ◌*◌, ◌≤◌, ◌<◌, leb, ltb, eqb, length, take, drop, get_or, set}
-use Rattle.std.proofs.Math.Option.{Option, none, some}
+use Rattle.std.specs.Prelude.{Option, None as none, Some as some, Result, Ok, Err}
 use Rattle.saiga.specs.Limits.{sheet_limit, attribute_limit, node_limit, last_kind, expression_limit}
-use Rattle.saiga.specs.Values.{Base, unit_t, node_t, base_of, base, of_bytes, is_word, of_word}
+use Rattle.saiga.specs.Values.{base_of, base, of_bytes, is_word, of_word}
+use Rattle.saiga.specs.declared.Base.{Base}
+use Rattle.saiga.specs.declared.Base.TheVariants.{Unit as unit_t, Node as node_t}
 use Rattle.saiga.specs.declared.Value.{Value}
 use Rattle.saiga.specs.Expressions.{Whole, no_expression, expression, read_whole}
 use Rattle.saiga.specs.Types.{has_type}
 use Rattle.saiga.specs.Gaps.{first_gap}
 use Rattle.saiga.specs.Sheet.{Sheet, node_count, attribute_count, figure_for, rule_for, forward_for, attribute_part, node_part, figure_part, rule_part, Command, attribute_command, node_command, figure_command, rule_command, forward_command, end_command, no_command, command_of, Checked, refused◌at_place◌, accepted, check_sheet}
+use Rattle.saiga.specs.Stops.{stop_number, checked_of, says}
+use Rattle.saiga.specs.declared.stops.Refusal.{Refusal}
+use Rattle.sheets.specs.declared.Counts.{Counts}
+use Rattle.sheets.specs.declared.Part.{Part}
+use Rattle.sheets.specs.declared.Part.TheVariants.{Attributes, Nodes, Figures, Rules}
 use Rattle.sheets.specs.declared.Progress.{Progress}
-use Rattle.sheets.specs.declared.Read.{Read}
-use Rattle.sheets.specs.declared.Read.TheVariants.{Stops, Ends, GoesOn}
-use Rattle.sheets.specs.declared.Gap.{Gap}
-use Rattle.sheets.specs.declared.Gap.TheVariants.{At, Nowhere}
-use Rattle.sheets.specs.declared.lookup.FoundFigure.{FoundFigure}
-use Rattle.sheets.specs.declared.lookup.FoundFigure.TheVariants.{Of, NoFigure}
 use Rattle.sheets.specs.declared.lookup.FoundPiece.{FoundPiece}
 use Rattle.sheets.specs.declared.lookup.FoundPiece.TheVariants.{OfRule, OfForward}
-use Rattle.sheets.specs.declared.SheetCheck.{SheetCheck}
-use Rattle.sheets.specs.declared.SheetCheck.TheVariants.{Refused, Accepted}
 use Rattle.values.specs.Cells.{emptied}
 use Rattle.values.specs.Layout.{result_at, parameter_at, kind_at, attributes_in, kinds_in}
 
@@ -65,6 +64,13 @@ indexed (suc at) f = some (f at)
 
 -- ---- Commands
 
+-- the number of the part reached
+abbrev pub part_number : Part → ℕ
+part_number Attributes = attribute_part
+part_number Nodes = node_part
+part_number Figures = figure_part
+part_number Rules = rule_part
+
 -- What reading one command comes to, with the index after it.
 infix 20 stops◌at_offset◌
 pub data Scanned : Type 0 where
@@ -79,19 +85,19 @@ demand false number r = stops number at_offset 0
 unfoldable pub scan_attribute : List ℕ → Progress → List ℕ → Scanned
 scan_attribute bytes p index =
     let at = p.at in
-    demand (leb p.part attribute_part && leb (at + 3) (length bytes)) 2
+    demand (leb (part_number p.part) attribute_part && leb (at + 3) (length bytes)) 2
     (demand (ltb p.attributes attribute_limit) 3
     (demand (ltb (get_or bytes (at + 1) 0) 4 && ltb (get_or bytes (at + 2) 0) 4) 4
-    (goes_on record { at = at + 3; part = attribute_part; attributes = p.attributes + 1; nodes = p.nodes } index)))
+    (goes_on record p { at = at + 3; part = Attributes; attributes = p.attributes + 1 } index)))
 
 -- A node's row of the index is emptied when the node is declared.
 unfoldable pub scan_node : List ℕ → Progress → List ℕ → Scanned
 scan_node bytes p index =
     let at = p.at in
-    demand (leb p.part node_part && leb (at + 2) (length bytes)) 2
+    demand (leb (part_number p.part) node_part && leb (at + 2) (length bytes)) 2
     (demand (ltb p.nodes node_limit) 3
     (demand (leb (get_or bytes (at + 1) 0) last_kind) 4
-    (goes_on record { at = at + 2; part = node_part; attributes = p.attributes; nodes = p.nodes + 1 } (emptied index (figure_place p.nodes 0) attribute_limit))))
+    (goes_on record p { at = at + 2; part = Nodes; nodes = p.nodes + 1 } (emptied index (figure_place p.nodes 0) attribute_limit))))
 
 unfoldable pub scan_figure : List ℕ → Progress → List ℕ → Scanned
 scan_figure bytes p index =
@@ -99,10 +105,10 @@ scan_figure bytes p index =
     let n = of_bytes (take 2 (drop (at + 1) bytes)) in
     let a = get_or bytes (at + 3) 0 in
     let w = of_bytes (take 4 (drop (at + 4) bytes)) in
-    demand (leb p.part figure_part && leb (at + 8) (length bytes)) 2
+    demand (leb (part_number p.part) figure_part && leb (at + 8) (length bytes)) 2
     (demand (ltb n p.nodes && ltb a p.attributes && is_word p.nodes (base_of (result_at bytes a)) w) 4
     (demand (eqb (get_or index (figure_place n a) 0) 0) 5
-    (goes_on record { at = at + 8; part = figure_part; attributes = p.attributes; nodes = p.nodes } (set index (figure_place n a) (at + 1)))))
+    (goes_on record p { at = at + 8; part = Figures } (set index (figure_place n a) (at + 1)))))
 
 -- The piece behind the offset `before`, for a place in the index. `q` is the type of 0x31, if it may be used, and `t` the piece's type.
 unfoldable pub demand_piece : List ℕ → Progress → Base → Base → Whole → Scanned → Scanned
@@ -114,7 +120,7 @@ scan_piece bytes p index place before has-parameter q t =
     let n = of_bytes (take 2 (drop (before + 1) bytes)) in
     demand (eqb (get_or index place 0) 0) 5
     (demand_piece bytes p q t (read_whole record { nodes = p.nodes; attributes = p.attributes; has-this = true; has-parameter = has-parameter } (piece_at bytes before))
-    (goes_on record { at = before + 3 + n; part = rule_part; attributes = p.attributes; nodes = p.nodes } (set index place (before + 1))))
+    (goes_on record p { at = before + 3 + n; part = Rules } (set index place (before + 1))))
 
 unfoldable pub scan_rule : List ℕ → Progress → List ℕ → Scanned
 scan_rule bytes p index =
@@ -122,7 +128,7 @@ scan_rule bytes p index =
     let k = get_or bytes (at + 1) 0 in
     let a = get_or bytes (at + 2) 0 in
     let n = of_bytes (take 2 (drop (at + 3) bytes)) in
-    demand (leb p.part rule_part && leb (at + 5) (length bytes) && leb (at + 5 + n) (length bytes)) 2
+    demand (leb (part_number p.part) rule_part && leb (at + 5) (length bytes) && leb (at + 5 + n) (length bytes)) 2
     (demand (leb k last_kind && ltb a p.attributes) 4
     (scan_piece bytes p index (rule_place k a) (at + 2) true (base_of (parameter_at bytes a)) (base_of (result_at bytes a))))
 
@@ -131,7 +137,7 @@ scan_forward bytes p index =
     let at = p.at in
     let k = get_or bytes (at + 1) 0 in
     let n = of_bytes (take 2 (drop (at + 2) bytes)) in
-    demand (leb p.part rule_part && leb (at + 4) (length bytes) && leb (at + 4 + n) (length bytes)) 2
+    demand (leb (part_number p.part) rule_part && leb (at + 4) (length bytes) && leb (at + 4 + n) (length bytes)) 2
     (demand (leb k last_kind) 4
     (scan_piece bytes p index (forward_place k) (at + 1) false unit_t node_t))
 
@@ -167,16 +173,15 @@ is_indexed bytes index attributes n a =
 abbrev pub missing_in : List ℕ → List ℕ → ℕ → ℕ → Option ℕ
 missing_in bytes index attributes nodes = first_gap (is_indexed bytes index attributes) nodes attributes
 
--- The lowest attribute below a limit that a node lacks, or the limit.
-pub record Lacks (defined : ℕ → Bool) (limit a : ℕ) : Type 0 where
-  pub within : a ≤ limit
-  pub undefined : a < limit → defined a ≡ false
-  pub lower : (b : ℕ) → b < a → defined b ≡ true
+-- The lowest attribute below a limit that a node lacks, if it lacks one.
+abbrev pub Lacks : (ℕ → Bool) → ℕ → Option ℕ → Type 0
+Lacks defined limit none = (b : ℕ) → b < limit → defined b ≡ true
+Lacks defined limit (some a) = (a < limit) × (defined a ≡ false) × ((b : ℕ) → b < a → defined b ≡ true)
 
 -- ---- The pass
 
 pub record Scan : Type 0 where
-  pub check : SheetCheck
+  pub check : Checked Counts
   pub index : List ℕ
 
 -- An accepted sheet's index gets the numbers of its attributes and nodes.
@@ -184,34 +189,37 @@ abbrev pub counted : ℕ → ℕ → List ℕ → List ℕ
 counted attributes nodes index = set (set index attributes_place attributes) nodes_place nodes
 
 unfoldable pub scanned : Progress → List ℕ → Option ℕ → Scan
-scanned p index none = record { check = Accepted p.attributes p.nodes; index = counted p.attributes p.nodes index }
-scanned p index (some place) = record { check = Refused 8 place; index = index }
+scanned p index none =
+    record { check = accepted record { attributes = p.attributes; nodes = p.nodes }; index = counted p.attributes p.nodes index }
+scanned p index (some place) = record { check = refused 8 at_place place; index = index }
 
 unfoldable pub scan_from : ℕ → List ℕ → Progress → List ℕ → Scan
-scan_from zero bytes p index = record { check = Refused 2 p.at; index = index }
+scan_from zero bytes p index = record { check = refused 2 at_place p.at; index = index }
 scan_from (suc k) bytes p index =
     elim (scan_command bytes p index) [
-      | stops number at_offset offset ↦ record { check = Refused number (p.at + offset); index = index }
+      | stops number at_offset offset ↦ record { check = refused number at_place (p.at + offset); index = index }
       | ends ↦ scanned p index (missing_in bytes index p.attributes p.nodes)
       | goes_on p' index' ↦ scan_from k bytes p' index'
     ]
 
 abbrev pub start : Progress
-start = record { at = 0; part = attribute_part; attributes = 0; nodes = 0 }
+start = record { at = 0; part = Attributes; attributes = 0; nodes = 0 }
 
 -- The part of the index for rules and forwards is emptied first.
 unfoldable pub scan_sheet : List ℕ → List ℕ → Scan
 scan_sheet bytes index =
     cond (leb (length bytes) sheet_limit)
     (scan_from (suc (length bytes)) bytes start (emptied index pieces_at piece_places))
-    record { check = Refused 1 0; index = index }
+    record { check = refused 1 at_place 0; index = index }
 
 -- ---- What it comes to
 
--- what the code says of a check
-unfoldable pub check_of : Checked Sheet → SheetCheck
-check_of (refused number at_place place) = Refused number place
-check_of (accepted s) = Accepted (attribute_count s) (node_count s)
+-- what the code says of an accepted sheet, and of a check
+abbrev pub counts_of : Sheet → Counts
+counts_of s = record { attributes = attribute_count s; nodes = node_count s }
+
+unfoldable pub check_of : Checked Sheet → Checked Counts
+check_of c = says counts_of c
 
 -- that the command at an offset stands within the sheet's bytes and holds a word of its attribute's type; that the piece behind an offset does and may be
 -- an expression
@@ -253,7 +261,6 @@ pub record Indexed (bytes : List ℕ) (s : Sheet) (index : List ℕ) : Type 0 wh
 
 -- What is known where a command is read: the counts are within their limits and within the sheet's bytes.
 pub record Reading (bytes : List ℕ) (p : Progress) : Type 0 where
-  pub parts : p.part ≤ rule_part
   pub within : p.at ≤ length bytes
   pub short : length bytes ≤ sheet_limit
   pub room : 3 * p.attributes + 2 * p.nodes ≤ length bytes
@@ -267,10 +274,17 @@ pub record PieceAsked (bytes : List ℕ) (at place before : ℕ) : Type 0 where
   pub behind : at < before
   pub room : before + 3 + of_bytes (take 2 (drop (before + 1) bytes)) ≤ length bytes
 
-abbrev pub read_of : Read → List ℕ → Scanned
-read_of (Stops number offset) index = stops number at_offset offset
-read_of Ends index = ends
-read_of (GoesOn p) index = goes_on p index
+-- A reader answers what is known after its command, or nothing where it is the end; or a stop, with its place.
+abbrev pub read_of : Result (Option Progress) Refusal → List ℕ → Scanned
+read_of (Err r) index = stops (stop_number r.stop) at_offset r.place
+read_of (Ok none) index = ends
+read_of (Ok (some p)) index = goes_on p index
+
+-- what was scanned of the command at an offset, with the place of a stop
+abbrev pub placed : ℕ → Scanned → Scanned
+placed at (stops number at_offset offset) = stops number at_offset (at + offset)
+placed at ends = ends
+placed at (goes_on p index) = goes_on p index
 
 abbrev pub index_after : Scanned → List ℕ → List ℕ
 index_after (stops number at_offset offset) index = index
@@ -278,13 +292,9 @@ index_after ends index = index
 index_after (goes_on p after) index = after
 
 -- What the code reads, with the index that it leaves, is what the definitions read; a stop and the end leave the index as it was.
-pub record ReadAs (r : Read) (after before : List ℕ) (t : Scanned) : Type 0 where
-  pub read : read_of r after ≡ t
+pub record ReadAs (at : ℕ) (r : Result (Option Progress) Refusal) (after before : List ℕ) (t : Scanned) : Type 0 where
+  pub read : read_of r after ≡ placed at t
   pub index_is : after ≡ index_after t before
-
-abbrev pub gap_of : Gap → Option ℕ
-gap_of (At place) = some place
-gap_of Nowhere = none
 
 -- A node, its attributes and its kind stand within the sheet's bytes and the index.
 pub record Declared (bytes index : List ℕ) (attributes n : ℕ) : Type 0 where
@@ -294,14 +304,14 @@ pub record Declared (bytes index : List ℕ) (attributes n : ℕ) : Type 0 where
   pub node_bound : n < node_limit
   pub kind_bound : kind_at bytes attributes n ≤ last_kind
 
-abbrev pub scan_of : SheetCheck → List ℕ → Scan
-scan_of check index = record { check = check; index = index }
+abbrev pub scan_of : Result Counts Refusal → List ℕ → Scan
+scan_of check index = record { check = checked_of check; index = index }
 
 -- What the check comes to: the check of the definitions, and an index that has all that an accepted sheet says. What a refused sheet leaves in the
 -- index is free; its length stays.
-pub record Checks (bytes : List ℕ) (check : SheetCheck) (index : List ℕ) : Type 0 where
+pub record Checks (bytes : List ℕ) (check : Result Counts Refusal) (index : List ℕ) : Type 0 where
   pub size : length index ≡ index_size
-  pub checked : check ≡ check_of (check_sheet bytes)
+  pub checked : checked_of check ≡ check_of (check_sheet bytes)
   pub indexes : (s : Sheet) → check_sheet bytes ≡ accepted s → Indexed bytes s index
 
 -- A declared node and a declared attribute of an indexed sheet.
@@ -317,10 +327,6 @@ rule_number bytes index n a = get_or index (rule_place (kind_at bytes (get_or in
 
 abbrev pub forward_number : List ℕ → List ℕ → ℕ → ℕ
 forward_number bytes index n = get_or index (forward_place (kind_at bytes (get_or index attributes_place 0) n)) 0
-
-abbrev pub figure_of : FoundFigure → Option Value
-figure_of (Of v) = some v
-figure_of NoFigure = none
 
 -- what defines a pair without figure, by the two numbers
 abbrev pub piece_for : ℕ → ℕ → FoundPiece

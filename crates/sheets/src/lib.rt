@@ -4,317 +4,299 @@
 
 pub mod lookup;
 
-ghost use Rattle.std.specs.Prelude.{◌≡◌, List, ℕ, suc, ◌+◌, ◌-◌, ◌≤◌, ◌<◌, length};
+ghost use Rattle.std.specs.Prelude.{◌≡◌, List, ℕ, suc, ◌+◌, ◌-◌, ◌≤◌, ◌<◌, length, is_some};
 ghost use Rattle.saiga.specs.Limits.{sheet_limit, attribute_limit, node_limit, last_kind};
-ghost use Rattle.saiga.specs.Values.{base_of};
+ghost use Rattle.expressions.specs.Forms.{parameter_type};
 ghost use Rattle.values.specs.Cells.{emptied};
 ghost use Rattle.sheets.specs.Notes.{NotesOn, ChecksNotes};
-ghost use Rattle.sheets.specs.Scan.{pieces_at, piece_places, index_size, scan_attribute, scan_node, scan_figure, scan_piece, scan_rule, scan_forward, scan_end, scan_command, pair_indexed, is_indexed, missing_in, Lacks, scanned, scan_from, start, Reading, PieceAsked, ReadAs, Declared, gap_of, scan_of, Checks};
+ghost use Rattle.sheets.specs.Scan.{pieces_at, piece_places, index_size, scan_attribute, scan_node, scan_figure, scan_piece, scan_rule, scan_forward, scan_end, scan_command, pair_indexed, is_indexed, missing_in, Lacks, scanned, scan_from, start, Reading, PieceAsked, ReadAs, Declared, scan_of, Checks};
 
-use expressions::Formed;
+use expressions::{Scope, types};
 use lookup::{ATTRIBUTES_PLACE, INDEX_SIZE, NODES_PLACE, PIECE_PLACES, PIECES_AT};
+use saiga::Base;
 use saiga::limits::{ATTRIBUTE_LIMIT, LAST_KIND, NODE_LIMIT, SHEET_LIMIT};
+use saiga::stops::{Refusal, Stop};
 
-// The last kind, as a byte of the sheet.
-const LAST_KIND_BYTE: u8 = LAST_KIND as u8;
+// A sheet that was checked, with the index and the notes that its check filled.
+#[derive(Clone, Copy)]
+pub struct IndexedSheet<'a> {
+    pub bytes: &'a [u8],
+    pub index: &'a [u16],
+    pub notes: &'a [u8],
+}
 
-// The parts of a sheet in the order of their commands.
-const ATTRIBUTE_PART: u32 = 0;
+// The numbers of attributes and nodes that an accepted sheet declares.
+#[derive(Clone, Copy)]
+pub struct Counts {
+    pub attributes: usize,
+    pub nodes: usize,
+}
 
-const NODE_PART: u32 = 1;
-
-const FIGURE_PART: u32 = 2;
-
-const RULE_PART: u32 = 3;
-
-// The codes of two types: Unit, which stands for the type of a parameter that may not be used, and Node.
-const UNIT_CODE: u8 = 0;
-
-const NODE_CODE: u8 = 3;
+// The parts of a sheet in the order of their commands. Forwards stand among the rules.
+#[derive(Clone, Copy, PartialEq, PartialOrd)]
+pub enum Part {
+    Attributes,
+    Nodes,
+    Figures,
+    Rules,
+}
 
 // What is known of a sheet part way through its check: the offset reached, the part of the sheet reached, and how many attributes
 // and nodes are declared.
 #[derive(Clone, Copy)]
 pub struct Progress {
     pub at: usize,
-    pub part: u32,
+    pub part: Part,
     pub attributes: usize,
     pub nodes: usize,
 }
 
-// Stop 1 to 8 with its place, or an accepted sheet with the numbers of its attributes and nodes.
+// A sheet part way through its check. The progress is within its bytes and the limits.
 #[derive(Clone, Copy)]
-pub enum SheetCheck {
-    Refused(u32, usize),
-    Accepted(usize, usize),
+struct Reader<'a> {
+    sheet: &'a [u8],
+    progress: Progress,
+    ghost reading: { Reading sheet.now progress },
 }
 
-// What reading one command comes to: a stop with an offset from the command, the end command, or what is known after it.
-#[derive(Drop)]
-enum Read {
-    Stops(u32, usize),
-    Ends,
-    GoesOn(Progress),
-}
+// Each reader of a command answers what is known after it, or nothing after the end command. Index and notes are slices whose lengths each asks for: the length
+// of a lent array is forgotten over each call, unless the callee promises it.
+impl Reader<'_> {
+    #[tactic(auto, unfolding(crate::specs::Scan::scan_attribute, crate::specs::Scan::demand))]
+    fn read_attribute(self) -> Result<Option<Progress>, Refusal>
+        ensures { (index : List ℕ) → ReadAs self.entry.progress.at result index index (scan_attribute self.entry.sheet.now self.entry.progress index) }
+    {
+        let Reader { sheet, progress: p } = self;
+        let at = p.at;
+        if Part::Attributes < p.part || sheet.len() < at + 3 {
+            return Err(Stop::Malformed.at(at));
+        }
+        if ATTRIBUTE_LIMIT <= p.attributes {
+            return Err(Stop::TooMany.at(at));
+        }
+        if 4 <= sheet[at + 1] || 4 <= sheet[at + 2] {
+            return Err(Stop::OutOfRange.at(at));
+        }
+        Ok(Some(Progress {
+            at: at + 3,
+            part: Part::Attributes,
+            attributes: p.attributes + 1,
+            ..p
+        }))
+    }
 
-// A pair without definition, as node × 32 + attribute.
-#[derive(Drop)]
-enum Gap {
-    At(usize),
-    Nowhere,
-}
+    #[tactic(auto, unfolding(crate::specs::Scan::scan_node, crate::specs::Scan::demand))]
+    fn read_node(self, index: &mut [u16]) -> Result<Option<Progress>, Refusal>
+        requires { length index.old ≡ index_size }
+        ensures { ReadAs self.entry.progress.at result index.new index.old (scan_node self.entry.sheet.now self.entry.progress index.old) }
+    {
+        let Reader { sheet, progress: p } = self;
+        let at = p.at;
+        if Part::Nodes < p.part || sheet.len() < at + 2 {
+            return Err(Stop::Malformed.at(at));
+        }
+        if NODE_LIMIT <= p.nodes {
+            return Err(Stop::TooMany.at(at));
+        }
+        if LAST_KIND < sheet[at + 1] as usize {
+            return Err(Stop::OutOfRange.at(at));
+        }
+        values::clear(index, lookup::figure_place(p.nodes, 0), ATTRIBUTE_LIMIT);
+        Ok(Some(Progress {
+            at: at + 2,
+            part: Part::Nodes,
+            nodes: p.nodes + 1,
+            ..p
+        }))
+    }
 
-fn wide(b: u8) -> usize
-    ensures { (result ≡ b) × (result < 256) }
-{
-    b as usize
-}
+    #[tactic(auto, unfolding(crate::specs::Scan::scan_figure, crate::specs::Scan::demand))]
+    fn read_figure(self, index: &mut [u16]) -> Result<Option<Progress>, Refusal>
+        requires { length index.old ≡ index_size }
+        ensures { ReadAs self.entry.progress.at result index.new index.old (scan_figure self.entry.sheet.now self.entry.progress index.old) }
+    {
+        let Reader { sheet, progress: p } = self;
+        let at = p.at;
+        if Part::Figures < p.part || sheet.len() < at + 8 {
+            return Err(Stop::Malformed.at(at));
+        }
+        let n = values::number_at::<2>(sheet, at + 1) as usize;
+        let a = sheet[at + 3] as usize;
+        if p.nodes <= n || p.attributes <= a {
+            return Err(Stop::OutOfRange.at(at));
+        }
+        let code = values::result_at(sheet, a);
+        if !values::is_word(p.nodes, code, values::number_at::<4>(sheet, at + 4)) {
+            return Err(Stop::OutOfRange.at(at));
+        }
+        let place = lookup::figure_place(n, a);
+        if index[place] != 0 {
+            return Err(Stop::Repeated.at(at));
+        }
+        index[place] = (at + 1) as u16;
+        Ok(Some(Progress {
+            at: at + 8,
+            part: Part::Figures,
+            ..p
+        }))
+    }
 
-fn read_attribute(sheet: &[u8], p: Progress) -> Read
-    requires { Reading sheet.now p }
-    ensures { (index : List ℕ) → ReadAs result index index (scan_attribute sheet.now p index) }
-{
-    let at = p.at;
-    if ATTRIBUTE_PART < p.part {
-        return Read::Stops(2, 0);
+    // The piece of a rule or a forward, whose length stands behind the offset `before`: stops 5, 6 and 7. `place` is for it in the index; 0x31 may be used
+    // where it has a type, `parameter`; `wanted` is the piece's type.
+    #[tactic(auto, using(crate::proofs::Pieces::piece_laws), unfolding(crate::specs::Scan::scan_piece, crate::specs::Scan::piece_at, crate::specs::Scan::demand))]
+    fn read_piece(
+        self,
+        index: &mut [u16],
+        notes: &mut [u8],
+        place: usize,
+        before: usize,
+        parameter: Option<Base>,
+        wanted: Base,
+    ) -> Result<Option<Progress>, Refusal>
+        requires index_len { length index.old ≡ index_size }
+        requires notes_len { length self.sheet.now ≤ length notes.old }
+        requires asked { PieceAsked self.sheet.now self.progress.at place before }
+        ensures read_as { ReadAs self.entry.progress.at result index.new index.old
+            (scan_piece self.entry.sheet.now self.entry.progress index.old place before (is_some parameter) (parameter_type parameter) wanted) }
+        ensures notes_on { NotesOn self.entry.sheet.now self.entry.progress index.old notes.old index.new notes.new result }
+    {
+        let Reader { sheet, progress: p } = self;
+        if index[place] != 0 {
+            return Err(Stop::Repeated.at(p.at));
+        }
+        let start = before + 3;
+        let end = start + values::number_at::<2>(sheet, before + 1) as usize;
+        let declared = values::Declared {
+            sheet,
+            attributes: p.attributes,
+            nodes: p.nodes,
+        };
+        let scope = Scope {
+            declared,
+            this: true,
+            parameter,
+        };
+        let Some(found) = expressions::read_whole(&scope, &sheet[start..end], notes, start) else {
+            return Err(Stop::NoPiece.at(p.at));
+        };
+        if types::base_in(found) != Some(wanted) {
+            return Err(Stop::PieceType.at(p.at));
+        }
+        index[place] = (before + 1) as u16;
+        Ok(Some(Progress {
+            at: end,
+            part: Part::Rules,
+            ..p
+        }))
     }
-    if sheet.len() < at + 3 {
-        return Read::Stops(2, 0);
-    }
-    if ATTRIBUTE_LIMIT <= p.attributes {
-        return Read::Stops(3, 0);
-    }
-    if 4 <= sheet[at + 1] {
-        return Read::Stops(4, 0);
-    }
-    if 4 <= sheet[at + 2] {
-        return Read::Stops(4, 0);
-    }
-    Read::GoesOn(Progress {
-        at: at + 3,
-        part: ATTRIBUTE_PART,
-        attributes: p.attributes + 1,
-        nodes: p.nodes,
-    })
-}
 
-fn read_node(sheet: &[u8], index: &mut [u16], p: Progress) -> Read
-    requires { Reading sheet.now p × (length index.old ≡ index_size) }
-    ensures { ReadAs result index.new index.old (scan_node sheet.now p index.old) }
-{
-    let at = p.at;
-    if NODE_PART < p.part {
-        return Read::Stops(2, 0);
+    #[tactic(auto, unfolding(crate::specs::Scan::scan_rule, crate::specs::Scan::demand))]
+    fn read_rule(self, index: &mut [u16], notes: &mut [u8]) -> Result<Option<Progress>, Refusal>
+        requires index_len { length index.old ≡ index_size }
+        requires notes_len { length self.sheet.now ≤ length notes.old }
+        ensures read_as { ReadAs self.entry.progress.at result index.new index.old (scan_rule self.entry.sheet.now self.entry.progress index.old) }
+        ensures notes_on { NotesOn self.entry.sheet.now self.entry.progress index.old notes.old index.new notes.new result }
+    {
+        let Reader { sheet, progress: p } = self;
+        let at = p.at;
+        if sheet.len() < at + 5
+            || sheet.len() < at + 5 + values::number_at::<2>(sheet, at + 3) as usize
+        {
+            return Err(Stop::Malformed.at(at));
+        }
+        let k = sheet[at + 1] as usize;
+        let a = sheet[at + 2] as usize;
+        if LAST_KIND < k || p.attributes <= a {
+            return Err(Stop::OutOfRange.at(at));
+        }
+        let place = lookup::rule_place(k, a);
+        let parameter = values::base_of(values::parameter_at(sheet, a));
+        let wanted = values::base_of(values::result_at(sheet, a));
+        self.read_piece(index, notes, place, at + 2, Some(parameter), wanted)
     }
-    if sheet.len() < at + 2 {
-        return Read::Stops(2, 0);
-    }
-    if NODE_LIMIT <= p.nodes {
-        return Read::Stops(3, 0);
-    }
-    if LAST_KIND_BYTE < sheet[at + 1] {
-        return Read::Stops(4, 0);
-    }
-    values::clear(index, lookup::figure_place(p.nodes, 0), ATTRIBUTE_LIMIT);
-    Read::GoesOn(Progress {
-        at: at + 2,
-        part: NODE_PART,
-        attributes: p.attributes,
-        nodes: p.nodes + 1,
-    })
-}
 
-fn read_figure(sheet: &[u8], index: &mut [u16], p: Progress) -> Read
-    requires { Reading sheet.now p × (length index.old ≡ index_size) }
-    ensures { ReadAs result index.new index.old (scan_figure sheet.now p index.old) }
-{
-    let at = p.at;
-    if FIGURE_PART < p.part {
-        return Read::Stops(2, 0);
+    // A forward is of type Node, and 0x31 may not be used in it.
+    #[tactic(auto, unfolding(crate::specs::Scan::scan_forward, crate::specs::Scan::demand))]
+    fn read_forward(self, index: &mut [u16], notes: &mut [u8]) -> Result<Option<Progress>, Refusal>
+        requires index_len { length index.old ≡ index_size }
+        requires notes_len { length self.sheet.now ≤ length notes.old }
+        ensures read_as { ReadAs self.entry.progress.at result index.new index.old (scan_forward self.entry.sheet.now self.entry.progress index.old) }
+        ensures notes_on { NotesOn self.entry.sheet.now self.entry.progress index.old notes.old index.new notes.new result }
+    {
+        let Reader { sheet, progress: p } = self;
+        let at = p.at;
+        if sheet.len() < at + 4
+            || sheet.len() < at + 4 + values::number_at::<2>(sheet, at + 2) as usize
+        {
+            return Err(Stop::Malformed.at(at));
+        }
+        let k = sheet[at + 1] as usize;
+        if LAST_KIND < k {
+            return Err(Stop::OutOfRange.at(at));
+        }
+        let place = lookup::forward_place(k);
+        self.read_piece(index, notes, place, at + 1, None, Base::Node)
     }
-    if sheet.len() < at + 8 {
-        return Read::Stops(2, 0);
-    }
-    let n = values::two(sheet, at + 1) as usize;
-    let a = wide(sheet[at + 3]);
-    if p.nodes <= n {
-        return Read::Stops(4, 0);
-    }
-    if p.attributes <= a {
-        return Read::Stops(4, 0);
-    }
-    if !values::is_word(
-        p.nodes,
-        values::result_at(sheet, a),
-        values::four(sheet, at + 4),
-    ) {
-        return Read::Stops(4, 0);
-    }
-    let place = lookup::figure_place(n, a);
-    if index[place] != 0 {
-        return Read::Stops(5, 0);
-    }
-    index[place] = (at + 1) as u16;
-    Read::GoesOn(Progress {
-        at: at + 8,
-        part: FIGURE_PART,
-        attributes: p.attributes,
-        nodes: p.nodes,
-    })
-}
 
-// The piece of a rule or a forward, whose length stands behind the offset `before`: stops 5, 6 and 7. `place` is for it in the index; 0x31 is
-// `allowed` or not, and of the type with the code `parameter`; `result` is the code of the piece's type.
-fn read_piece(
-    sheet: &[u8],
-    index: &mut [u16],
-    notes: &mut [u8],
-    p: Progress,
-    place: usize,
-    before: usize,
-    allowed: bool,
-    parameter: u8,
-    res: u8,
-) -> Read
-    requires { Reading sheet.now p × (length index.old ≡ index_size) × (length sheet.now ≤ length notes.old) × PieceAsked sheet.now p.at place before }
-    ensures read_as { ReadAs result index.new index.old
-        (scan_piece sheet.now p index.old place before allowed (base_of parameter) (base_of res)) }
-    ensures notes_on { NotesOn sheet.now p index.old notes.old index.new notes.new result }
-{
-    let attributes = p.attributes;
-    let nodes = p.nodes;
-    if index[place] != 0 {
-        return Read::Stops(5, 0);
+    #[tactic(auto, unfolding(crate::specs::Scan::scan_end))]
+    fn read_end(self) -> Result<Option<Progress>, Refusal>
+        ensures { (index : List ℕ) → ReadAs self.entry.progress.at result index index (scan_end self.entry.sheet.now self.entry.progress) }
+    {
+        let next = self.progress.at + 1;
+        if next == self.sheet.len() {
+            Ok(None)
+        } else {
+            Err(Stop::Malformed.at(next))
+        }
     }
-    let start = before + 3;
-    let end = start + values::two(sheet, before + 1) as usize;
-    let formed = expressions::read_whole(
-        sheet,
-        attributes,
-        nodes,
-        true,
-        allowed,
-        parameter,
-        &sheet[start..end],
-        notes,
-        start,
-    );
-    let Formed::Expression(t) = formed else {
-        return Read::Stops(6, 0);
-    };
-    if t != expressions::numbers::base_number(res) {
-        return Read::Stops(7, 0);
-    }
-    index[place] = (before + 1) as u16;
-    Read::GoesOn(Progress {
-        at: end,
-        part: RULE_PART,
-        attributes,
-        nodes,
-    })
-}
 
-fn read_rule(sheet: &[u8], index: &mut [u16], notes: &mut [u8], p: Progress) -> Read
-    requires { Reading sheet.now p × (length index.old ≡ index_size) × (length sheet.now ≤ length notes.old) }
-    ensures read_as { ReadAs result index.new index.old (scan_rule sheet.now p index.old) }
-    ensures notes_on { NotesOn sheet.now p index.old notes.old index.new notes.new result }
-{
-    let at = p.at;
-    if sheet.len() < at + 5 {
-        return Read::Stops(2, 0);
+    // The command at the offset reached.
+    #[tactic(auto, using(crate::proofs::Noted::steady_laws), unfolding(crate::specs::Scan::scan_command, crate::specs::Scan::scan_at, saiga::specs::Sheet::command_of))]
+    fn read_command(self, index: &mut [u16], notes: &mut [u8]) -> Result<Option<Progress>, Refusal>
+        requires index_len { length index.old ≡ index_size }
+        requires notes_len { length self.sheet.now ≤ length notes.old }
+        ensures read_as { ReadAs self.entry.progress.at result index.new index.old (scan_command self.entry.sheet.now self.entry.progress index.old) }
+        ensures notes_on { NotesOn self.entry.sheet.now self.entry.progress index.old notes.old index.new notes.new result }
+    {
+        let at = self.progress.at;
+        let Some(&command) = self.sheet.get(at) else {
+            return Err(Stop::Malformed.at(at));
+        };
+        match command {
+            0x41 => self.read_attribute(),
+            0x4E => self.read_node(index),
+            0x56 => self.read_figure(index),
+            0x52 => self.read_rule(index, notes),
+            0x46 => self.read_forward(index, notes),
+            0x5A => self.read_end(),
+            _ => Err(Stop::Malformed.at(at)),
+        }
     }
-    if sheet.len() < at + 5 + values::two(sheet, at + 3) as usize {
-        return Read::Stops(2, 0);
-    }
-    let k = wide(sheet[at + 1]);
-    let a = wide(sheet[at + 2]);
-    if LAST_KIND < k {
-        return Read::Stops(4, 0);
-    }
-    if p.attributes <= a {
-        return Read::Stops(4, 0);
-    }
-    let place = lookup::rule_place(k, a);
-    let parameter = values::parameter_at(sheet, a);
-    let result = values::result_at(sheet, a);
-    read_piece(
-        sheet,
-        index,
-        notes,
-        p,
-        place,
-        at + 2,
-        true,
-        parameter,
-        result,
-    )
-}
 
-// A forward is of type Node, and 0x31 may not be used in it.
-fn read_forward(sheet: &[u8], index: &mut [u16], notes: &mut [u8], p: Progress) -> Read
-    requires { Reading sheet.now p × (length index.old ≡ index_size) × (length sheet.now ≤ length notes.old) }
-    ensures read_as { ReadAs result index.new index.old (scan_forward sheet.now p index.old) }
-    ensures notes_on { NotesOn sheet.now p index.old notes.old index.new notes.new result }
-{
-    let at = p.at;
-    if sheet.len() < at + 4 {
-        return Read::Stops(2, 0);
-    }
-    if sheet.len() < at + 4 + values::two(sheet, at + 2) as usize {
-        return Read::Stops(2, 0);
-    }
-    let k = wide(sheet[at + 1]);
-    if LAST_KIND < k {
-        return Read::Stops(4, 0);
-    }
-    read_piece(
-        sheet,
-        index,
-        notes,
-        p,
-        lookup::forward_place(k),
-        at + 1,
-        false,
-        UNIT_CODE,
-        NODE_CODE,
-    )
-}
-
-fn read_end(sheet: &[u8], p: Progress) -> Read
-    requires { Reading sheet.now p }
-    ensures { (index : List ℕ) → ReadAs result index index (scan_end sheet.now p) }
-{
-    let next = p.at + 1;
-    if next == sheet.len() {
-        Read::Ends
-    } else {
-        Read::Stops(2, 1)
-    }
-}
-
-// The command at the offset reached.
-fn read_command(sheet: &[u8], index: &mut [u16], notes: &mut [u8], p: Progress) -> Read
-    requires { Reading sheet.now p × (length index.old ≡ index_size) × (length sheet.now ≤ length notes.old) }
-    ensures read_as { ReadAs result index.new index.old (scan_command sheet.now p index.old) }
-    ensures notes_on { NotesOn sheet.now p index.old notes.old index.new notes.new result }
-{
-    let at = p.at;
-    if sheet.len() <= at {
-        return Read::Stops(2, 0);
-    }
-    let command = sheet[at];
-    match command {
-        0x41 => read_attribute(sheet, p),
-        0x4E => read_node(sheet, index, p),
-        0x56 => read_figure(sheet, index, p),
-        0x52 => read_rule(sheet, index, notes, p),
-        0x46 => read_forward(sheet, index, notes, p),
-        0x5A => read_end(sheet, p),
-        _ => Read::Stops(2, 0),
+    // The pass for missing pairs. The index of a sheet that passes gets the numbers of attributes and nodes.
+    #[tactic(auto, unfolding(crate::specs::Scan::scanned))]
+    fn complete(self, index: &mut [u16]) -> Result<Counts, Refusal>
+        requires declared { (n : ℕ) → n < self.progress.nodes → Declared self.sheet.now index.old self.progress.attributes n }
+        requires index_len { length index.old ≡ index_size }
+        ensures { scan_of result index.new
+            ≡ scanned self.entry.progress index.old (missing_in self.entry.sheet.now index.old self.entry.progress.attributes self.entry.progress.nodes) }
+    {
+        let Progress {
+            attributes,
+            nodes,
+            ..
+        } = self.progress;
+        if let Some(place) = first_gap(self.sheet, index, attributes, nodes) {
+            return Err(Stop::Missing.at(place));
+        }
+        index[ATTRIBUTES_PLACE] = attributes as u16;
+        index[NODES_PLACE] = nodes as u16;
+        Ok(Counts { attributes, nodes })
     }
 }
 
 // Whether a node of kind k has a figure or a rule for an attribute: the index has a number for one of them.
+#[tactic(auto, unfolding(crate::specs::Scan::pair_indexed))]
 fn is_defined(index: &[u16], n: usize, k: usize, a: usize) -> bool
     requires { (length index.now ≡ index_size) × (n < node_limit) × (k ≤ last_kind) × (a < attribute_limit) }
     ensures { result ≡ pair_indexed index.now n k a }
@@ -324,88 +306,65 @@ fn is_defined(index: &[u16], n: usize, k: usize, a: usize) -> bool
     figure + rule != 0
 }
 
-// The lowest attribute below a limit that a node lacks, or the limit. Where its kind has a forward it lacks none.
-fn lowest_lacked(sheet: &[u8], index: &[u16], attributes: usize, limit: usize, n: usize) -> usize
+// The lowest attribute below a limit that a node lacks. Where its kind has a forward it lacks none.
+#[tactic(auto, unfolding(crate::specs::Scan::is_indexed))]
+fn lowest_lacked(
+    sheet: &[u8],
+    index: &[u16],
+    attributes: usize,
+    limit: usize,
+    n: usize,
+) -> Option<usize>
     requires { Declared sheet.now index.now attributes n × (limit ≤ attributes) }
     ensures { Lacks (is_indexed sheet.now index.now attributes n) limit result }
 {
     let k = values::kind_at(sheet, attributes, n) as usize;
     if values::cell_at(index, lookup::forward_place(k)) != 0 {
-        return limit;
+        return None;
     }
-    let mut a = 0;
-    while a < limit {
+    for a in 0..limit {
         if !is_defined(index, n, k, a) {
-            return a;
+            return Some(a);
         }
-        a += 1;
     }
-    limit
+    None
 }
 
 // One walk over the nodes, which keeps the first gap so far: a later node matters only with a lower attribute.
-fn first_gap(sheet: &[u8], index: &[u16], attributes: usize, nodes: usize) -> Gap
+#[tactic(auto, using(crate::proofs::Gaps::gap_laws))]
+fn first_gap(sheet: &[u8], index: &[u16], attributes: usize, nodes: usize) -> Option<usize>
     requires { (n : ℕ) → n < nodes → Declared sheet.now index.now attributes n }
-    ensures { gap_of result ≡ missing_in sheet.now index.now attributes nodes }
+    ensures { result ≡ missing_in sheet.now index.now attributes nodes }
 {
-    let mut lowest = attributes;
-    let mut node = 0;
+    let mut gap = None;
+    let mut limit = attributes;
     for n in 0..nodes {
-        let a = lowest_lacked(sheet, index, attributes, lowest, n);
-        if a < lowest {
-            lowest = a;
-            node = n;
+        if let Some(a) = lowest_lacked(sheet, index, attributes, limit, n) {
+            gap = Some(lookup::figure_place(n, a));
+            limit = a;
         }
     }
-    if lowest < attributes {
-        Gap::At(lookup::figure_place(node, lowest))
-    } else {
-        Gap::Nowhere
-    }
-}
-
-// The pass for missing pairs. The index of a sheet that passes gets the numbers of attributes and nodes.
-fn complete(sheet: &[u8], index: &mut [u16], p: Progress) -> SheetCheck
-    requires declared { (n : ℕ) → n < p.nodes → Declared sheet.now index.old p.attributes n }
-    requires reading { Reading sheet.now p × (length index.old ≡ index_size) }
-    ensures { scan_of result index.new
-        ≡ scanned p index.old (missing_in sheet.now index.old p.attributes p.nodes) }
-{
-    let Gap::At(place) = first_gap(sheet, index, p.attributes, p.nodes) else {
-        index[ATTRIBUTES_PLACE] = p.attributes as u16;
-        index[NODES_PLACE] = p.nodes as u16;
-        return SheetCheck::Accepted(p.attributes, p.nodes);
-    };
-    SheetCheck::Refused(8, place)
+    gap
 }
 
 // The commands from the front, then the pass for missing pairs. The part of the index for rules and forwards is emptied first.
-fn read_commands(sheet: &[u8], index: &mut [u16], notes: &mut [u8]) -> SheetCheck
+fn read_commands(sheet: &[u8], index: &mut [u16], notes: &mut [u8]) -> Result<Counts, Refusal>
     requires { (length sheet.now ≤ sheet_limit) × (length index.old ≡ index_size) × (length sheet.now ≤ length notes.old) }
     ensures index_after { scan_of result index.new
         ≡ scan_from (suc (length sheet.now)) sheet.now start (emptied index.old pieces_at piece_places) }
     ensures checks_notes { ChecksNotes sheet.now result index.new notes.new }
 {
     values::clear(index, PIECES_AT, PIECE_PLACES);
-    let mut p = Progress {
+    let mut progress = Progress {
         at: 0,
-        part: ATTRIBUTE_PART,
+        part: Part::Attributes,
         attributes: 0,
         nodes: 0,
     };
-    loop {
-        match read_command(sheet, index, notes, p) {
-            Read::Stops(number, offset) => {
-                return SheetCheck::Refused(number, p.at + offset);
-            }
-            Read::Ends => {
-                return complete(sheet, index, p);
-            }
-            Read::GoesOn(next) => {
-                p = next;
-            }
-        }
+    while let Some(next) = (Reader { sheet, progress }).read_command(index, notes)? {
+        progress = next;
     }
+    Reader { sheet, progress }.complete(index)
 }
 
 // The check of a sheet. It fills the index: at its place each figure, as the offset of its command and one, and each rule and each forward, as the offset of
@@ -414,15 +373,13 @@ pub fn check(
     sheet: &[u8],
     index: &mut [u16; INDEX_SIZE],
     notes: &mut [u8; SHEET_LIMIT],
-) -> SheetCheck
+) -> Result<Counts, Refusal>
     ensures checks { Checks sheet.now result index.new }
     ensures checks_notes { ChecksNotes sheet.now result index.new notes.new }
     ensures notes_len { length notes.new ≡ sheet_limit }
 {
-    let numbers: &mut [u16] = index;
-    let widths: &mut [u8] = notes;
     if SHEET_LIMIT < sheet.len() {
-        return SheetCheck::Refused(1, 0);
+        return Err(Stop::SheetTooLong.at(0));
     }
-    read_commands(sheet, numbers, widths)
+    read_commands(sheet, index, notes)
 }

@@ -1,8 +1,9 @@
 // The index of a sheet: where each figure and each rule stands in the sheet's bytes, and what is looked up by it.
 ghost use Rattle.std.specs.Prelude.{◌≡◌, ◌+◌, ◌-◌, ◌≤◌, ◌<◌, length, get_or};
 ghost use Rattle.saiga.specs.Limits.{attribute_limit, node_limit, last_kind};
-ghost use Rattle.sheets.specs.Scan.{figure_place, rule_place, forward_place, attributes_place, nodes_place, index_size, figure_at, piece_at, indexed, IndexedPair, rule_number, forward_number, figure_of, piece_for, PieceHere};
+ghost use Rattle.sheets.specs.Scan.{figure_place, rule_place, forward_place, attributes_place, nodes_place, index_size, figure_at, piece_at, indexed, IndexedPair, rule_number, forward_number, piece_for, PieceHere};
 
+use crate::IndexedSheet;
 use saiga::Value;
 use saiga::limits::{ATTRIBUTE_LIMIT, LAST_KIND, NODE_LIMIT};
 
@@ -20,15 +21,8 @@ pub const NODES_PLACE: usize = ATTRIBUTES_PLACE + 1;
 
 pub const INDEX_SIZE: usize = NODES_PLACE + 1;
 
-// A definition that is a figure, if it is one.
-#[derive(Drop)]
-pub enum FoundFigure {
-    Of(Value),
-    NoFigure,
-}
-
 // A definition that is a piece of the sheet, by the offset of its length: a rule, or a forward.
-#[derive(Drop)]
+#[derive(Clone, Copy)]
 pub enum FoundPiece {
     OfRule(usize),
     OfForward(usize),
@@ -56,7 +50,7 @@ pub fn forward_place(k: usize) -> usize
     FORWARDS_AT + k
 }
 
-// How many attributes and nodes an accepted sheet declares.
+// How many attributes and nodes an accepted sheet declares. Two functions, since the cell's place as an argument would say less at each call.
 pub fn attribute_count(index: &[u16]) -> usize
     requires { length index.now ≡ index_size }
     ensures { result ≡ get_or index.now attributes_place 0 }
@@ -71,37 +65,42 @@ pub fn node_count(index: &[u16]) -> usize
     values::cell_at(index, NODES_PLACE)
 }
 
-// The figure of a pair, by one read of the index.
-pub fn figure(sheet: &[u8], index: &[u16], n: usize, a: usize) -> FoundFigure
-    requires { IndexedPair sheet.now index.now n a }
-    ensures { figure_of result ≡ indexed (get_or index.now (figure_place n a) 0) (figure_at sheet.now a) }
-{
-    let number = values::cell_at(index, figure_place(n, a));
-    if number == 0 {
-        return FoundFigure::NoFigure;
+impl<'a> IndexedSheet<'a> {
+    // The figure of a pair, by one read of the index.
+    #[tactic(auto, using(crate::proofs::Lookups::figure_laws))]
+    pub fn figure(self, n: usize, a: usize) -> Option<Value>
+        requires { IndexedPair self.bytes.now self.index.now n a }
+        ensures { result ≡ indexed (get_or self.entry.index.now (figure_place n a) 0) (figure_at self.entry.bytes.now a) }
+    {
+        let number = values::cell_at(self.index, figure_place(n, a));
+        if number == 0 {
+            return None;
+        }
+        let code = values::result_at(self.bytes, a);
+        Some(values::value_of(code, values::number_at::<4>(self.bytes, number + 3)))
     }
-    FoundFigure::Of(values::value_of(values::result_at(sheet, a), values::four(sheet, number + 3)))
-}
 
-// What defines a pair that has no figure: the rule for the node's kind and the attribute, else the kind's forward.
-pub fn found_piece(sheet: &[u8], index: &[u16], n: usize, a: usize) -> FoundPiece
-    requires { IndexedPair sheet.now index.now n a }
-    ensures { result ≡ piece_for (rule_number sheet.now index.now n a) (forward_number sheet.now index.now n) }
-{
-    let k = values::kind_at(sheet, attribute_count(index), n) as usize;
-    let number = values::cell_at(index, rule_place(k, a));
-    if number != 0 {
-        return FoundPiece::OfRule(number);
+    // What defines a pair that has no figure: the rule for the node's kind and the attribute, else the kind's forward.
+    pub fn found_piece(self, n: usize, a: usize) -> FoundPiece
+        requires { IndexedPair self.bytes.now self.index.now n a }
+        ensures { result ≡ piece_for (rule_number self.entry.bytes.now self.entry.index.now n a) (forward_number self.entry.bytes.now self.entry.index.now n) }
+    {
+        let k = values::kind_at(self.bytes, attribute_count(self.index), n) as usize;
+        let number = values::cell_at(self.index, rule_place(k, a));
+        if number != 0 {
+            return FoundPiece::OfRule(number);
+        }
+        FoundPiece::OfForward(values::cell_at(self.index, forward_place(k)))
     }
-    FoundPiece::OfForward(values::cell_at(index, forward_place(k)))
-}
 
-// The piece whose length stands at an offset, as a part of the sheet.
-pub fn piece<'a>(sheet: &'a [u8], number: usize) -> &'a [u8]
-    requires { PieceHere sheet.now number }
-    ensures { result.now ≡ piece_at sheet.now (number - 1) }
-{
-    let start = number + 2;
-    let end = start + values::two(sheet, number) as usize;
-    &sheet[start..end]
+    // The piece whose length stands at an offset, as a part of the sheet.
+    #[tactic(auto, unfolding(crate::specs::Scan::piece_at))]
+    pub fn piece(self, number: usize) -> &'a [u8]
+        requires { PieceHere self.bytes.now number }
+        ensures { result.now ≡ piece_at self.entry.bytes.now (number - 1) }
+    {
+        let start = number + 2;
+        let end = start + values::number_at::<2>(self.bytes, number) as usize;
+        &self.bytes[start..end]
+    }
 }

@@ -1,10 +1,12 @@
-// What others link: the calls of the engine as C functions, on numbers and byte slices. A slice is a pointer and then a length.
+// What others link: the calls of the engine as C functions, on numbers and byte slices. A slice is a pointer and then a length. The parameters, scratch among
+// them, stay one by one, since the C interface has them so.
 #![tactic(auto)]
 
-ghost use Rattle.std.specs.Prelude.{◌∷◌, ◌≡◌, min, length};
+ghost use Rattle.std.specs.Prelude.{◌∷◌, ◌≡◌, length};
 ghost use Rattle.saiga.specs.Limits.{sheet_limit};
 ghost use Rattle.saiga.specs.Ask.{lent, asking, check_call, ask};
 ghost use Rattle.saiga.specs.Sheet.{check_sheet};
+ghost use Rattle.saiga.specs.Stops.{checked_of};
 ghost use Rattle.sheets.specs.Scan.{index_size};
 ghost use Rattle.calls.specs.Answers.{answer_of};
 ghost use Rattle.calls.specs.Prepared.{PreparedSheet, NotedSheet, PreparedStore};
@@ -15,12 +17,13 @@ ghost use Rattle.sofretu.specs.Six.{in_signed, six};
 ghost use Rattle.sofretu.specs.Version.{version};
 
 use calls::Answer;
-use calls::checks::Verdict;
 use engine::RUN_SIZE;
 use saiga::limits::{SHEET_LIMIT, TALLY_ROWS};
-use sheets::SheetCheck;
-use sheets::lookup::INDEX_SIZE;
-use stores::{LINKS_SIZE, StoreCheck};
+use saiga::stops::Refusal;
+use sheets::lookup::{INDEX_SIZE, attribute_count, node_count};
+use sheets::{Counts, IndexedSheet};
+use stores::LINKS_SIZE;
+use values::Declared;
 
 // The version of the library, 0.2.0: major * 10000 + minor * 100 + patch. The C header and the Rust crates have the same number.
 #[unsafe(no_mangle)]
@@ -28,6 +31,18 @@ pub extern "C" fn sofretu_version() -> u32
     ensures { result ≡ version }
 {
     200
+}
+
+// What a check comes to, as a number with its place: those of the stop that refuses, or 0 and 0.
+#[tactic(auto, unfolding(crate::specs::Check::number_of, crate::specs::Check::place_of))]
+fn told(check: Result<(), Refusal>) -> (u32, u64)
+    ensures number { result.0 ≡ number_of (checked_of check) }
+    ensures place { result.1 ≡ place_of (checked_of check) }
+{
+    match check {
+        Ok(()) => (0, 0),
+        Err(refusal) => (refusal.stop.number(), refusal.place as u64),
+    }
 }
 
 // The check of a call's arguments: 0, or the number of the stop that refuses them, 1 to 13, with its place in `place`. It takes some
@@ -47,7 +62,7 @@ pub extern "C" fn sofretu_check(
     let mut index = [0u16; INDEX_SIZE];
     let mut notes = [0u8; SHEET_LIMIT];
     let mut links = [0u16; LINKS_SIZE];
-    match calls::checks::check(
+    let verdict = calls::checks::check(
         sheet,
         question,
         store,
@@ -56,62 +71,53 @@ pub extern "C" fn sofretu_check(
         &mut index,
         &mut notes,
         &mut links,
-    ) {
-        Verdict::Refused(number, at) => {
-            *place = at as u64;
-            number
-        }
-        Verdict::Accepted => {
-            *place = 0;
-            0
-        }
-    }
+    );
+    let (number, at) = told(verdict);
+    *place = at;
+    number
 }
 
 // A number of 64 bits as a signed one, in two's complement: of the fields of an answer only a lent kept number can be so large.
 fn signed(n: usize) -> i64
     ensures { result ≡ in_signed n }
 {
-    if n < 9223372036854775808 {
-        n as i64
-    } else {
-        -1 - (18446744073709551615 - n) as i64
-    }
+    (n as u64).cast_signed()
 }
 
 // An answer as six numbers: number, place, type, value, steps, kept.
-fn lay(a: Answer, out: &mut [i64; 6])
-    ensures { out.new ≡ six (answer_of a) }
+fn six(answer: Answer) -> [i64; 6]
+    ensures { result ≡ six (answer_of answer) }
 {
-    match a {
-        Answer::Value(v, steps, kept) => {
-            *out = [
-                0,
-                0,
-                values::type_code(v) as i64,
-                values::decimal(v),
-                signed(steps),
-                signed(kept),
-            ];
-        }
-        Answer::Refusal(number, place, steps, kept) => {
-            *out = [
-                number as i64,
-                signed(place),
-                0,
-                0,
-                signed(steps),
-                signed(kept),
-            ];
-        }
+    match answer {
+        Answer::Value { value, steps, kept } => [
+            0,
+            0,
+            i64::from(values::type_code(value)),
+            values::decimal(value),
+            signed(steps),
+            signed(kept),
+        ],
+        Answer::Refused {
+            stop,
+            place,
+            steps,
+            kept,
+        } => [
+            i64::from(stop.number()),
+            signed(place),
+            0,
+            0,
+            signed(steps),
+            signed(kept),
+        ],
     }
 }
 
 // A question call in lent scratch: nothing is asked of what the scratch holds. Answer and tally are filled whole, under a refusal too.
 #[unsafe(no_mangle)]
-pub extern "C" fn sofretu_ask_in<'a>(
-    sheet: &'a [u8],
-    question: &'a [u8],
+pub extern "C" fn sofretu_ask_in(
+    sheet: &[u8],
+    question: &[u8],
     store: &mut [u8],
     kept: u64,
     budget: u64,
@@ -130,7 +136,7 @@ pub extern "C" fn sofretu_ask_in<'a>(
     ensures run_scratch { RunScratch (check_call sheet.now (lent store.old kept) (asking question.now budget))
         memory.old memory.new }
 {
-    let a = calls::ask(
+    let brought = calls::ask(
         sheet,
         question,
         store,
@@ -142,14 +148,14 @@ pub extern "C" fn sofretu_ask_in<'a>(
         memory,
         tally,
     );
-    lay(a, answer);
+    *answer = six(brought);
 }
 
 // A question call. Its scratch takes some 230 KB of stack.
 #[unsafe(no_mangle)]
-pub extern "C" fn sofretu_ask<'a>(
-    sheet: &'a [u8],
-    question: &'a [u8],
+pub extern "C" fn sofretu_ask(
+    sheet: &[u8],
+    question: &[u8],
     store: &mut [u8],
     kept: u64,
     budget: u64,
@@ -193,21 +199,15 @@ pub extern "C" fn sofretu_check_sheet(
     ensures index_len { (length index.new ≡ index_size) × (length notes.new ≡ sheet_limit) }
 {
     match sheets::check(sheet, index, notes) {
-        SheetCheck::Refused(number, place) => {
-            *found = [place as u64, 0, 0];
-            number
-        }
-        SheetCheck::Accepted(attributes, nodes) => {
+        Ok(Counts { attributes, nodes }) => {
             *found = [0, attributes as u64, nodes as u64];
             0
         }
+        Err(refusal) => {
+            *found = [refusal.place as u64, 0, 0];
+            refusal.stop.number()
+        }
     }
-}
-
-fn least(a: usize, b: usize) -> usize
-    ensures { result ≡ min a b }
-{
-    if a <= b { a } else { b }
 }
 
 // The check of a store, which fills the store's index: 0, 9 or 10, with the place in `place`. The sheet is one that was accepted, with its index. Of
@@ -224,33 +224,24 @@ pub extern "C" fn sofretu_check_store(
 ) -> u32
     ensures { StoreFound sheet.now index.now store.now kept links.new result place.new }
 {
-    match stores::check(
+    let declared = Declared {
         sheet,
-        least(sheets::lookup::attribute_count(index), sheet.len() / 3),
-        sheets::lookup::node_count(index),
-        store,
-        kept as usize,
-        links,
-    ) {
-        StoreCheck::Refused(number, entry) => {
-            *place = entry as u64;
-            number
-        }
-        StoreCheck::Accepted => {
-            *place = 0;
-            0
-        }
-    }
+        attributes: attribute_count(index).min(sheet.len() / 3),
+        nodes: node_count(index),
+    };
+    let (number, entry) = told(stores::check(declared, store, kept as usize, links));
+    *place = entry;
+    number
 }
 
 // A question to a sheet and a store that were checked: index and notes as sofretu_check_sheet left them, links as sofretu_check_store or an earlier call of this
 // left them. What it answers and leaves is what sofretu_ask does.
 #[unsafe(no_mangle)]
-pub extern "C" fn sofretu_ask_checked<'a>(
-    sheet: &'a [u8],
+pub extern "C" fn sofretu_ask_checked(
+    sheet: &[u8],
     index: &[u16; INDEX_SIZE],
     notes: &[u8; SHEET_LIMIT],
-    question: &'a [u8],
+    question: &[u8],
     store: &mut [u8],
     kept: u64,
     budget: u64,
@@ -269,10 +260,13 @@ pub extern "C" fn sofretu_ask_checked<'a>(
     ensures run_scratch { RunScratch (check_call sheet.now (lent store.old kept) (asking question.now budget))
         memory.old memory.new }
 {
-    let a = calls::ask_checked(
-        sheet,
+    let sheet = IndexedSheet {
+        bytes: sheet,
         index,
         notes,
+    };
+    let brought = calls::ask_checked(
+        sheet,
         question,
         store,
         kept as usize,
@@ -281,5 +275,5 @@ pub extern "C" fn sofretu_ask_checked<'a>(
         memory,
         tally,
     );
-    lay(a, answer);
+    *answer = six(brought);
 }

@@ -1,17 +1,20 @@
 -- The kept entries and their keys: the entry that a key finds keeps the value of its occurrence.
 use mathlib.Core.Bool.{Bool, true, false, not, ◌&&◌, cond, and-eq-true_iff, and-true, true≢false}
 use mathlib.Core.List.{List, [], ◌∷◌, ◌++◌}
-use mathlib.Core.Option.{Option, none, some}
+use Rattle.std.specs.Prelude.{Option, None as none, Some as some}
+use Rattle.std.specs.Prelude.{Result, Ok, Err}
+use Rattle.std.specs.Result.{result_ok, result_err}
 use mathlib.Core.Path.{◌≡◌, refl, sym, ◌∙◌, ap}
 use Prim.Native.Nat.{ℕ, zero, suc, ◌+◌, ◌*◌, ◌-◌, ◌<◌}
 use native.Mathlib.Nat.{zero-add, suc-add, add_comm, mul-suc}
 use native.Mathlib.Numerals.{add-one}
 use native.Mathlib.Omega.{arith}
 use lib.Dec.{eqb, ltb}
-use lib.ListN.{length, take, drop, length-append}
+use lib.ListN.{length, get_or, take, drop, length-append}
 use lib.Seq.{drop-drop}
 use borrow.Author.Tests.{ltb-true, eqb-true, eqb-false, not-true, not-false}
-use Rattle.saiga.specs.Values.{Base, base_code, is_word, of_word}
+use Rattle.saiga.specs.Values.{base_code, is_word, of_word}
+use Rattle.saiga.specs.declared.Base.{Base}
 use Rattle.saiga.specs.declared.Fields.{Fields}
 use Rattle.saiga.specs.declared.Value.{Value}
 use Rattle.saiga.specs.Types.{attribute_at}
@@ -26,11 +29,10 @@ use Rattle.saiga.proofs.Equality.{same-occurrence, occurrence-refl}
 use Rattle.saiga.proofs.Keeping.{kept-other}
 use Rattle.saiga.proofs.Entries.{store_in, read_one, read_none}
 use Rattle.stores.specs.declared.Key.{Key}
-use Rattle.stores.specs.declared.Trial.TheVariants as trial
-use Rattle.stores.specs.Walks.{Keyed}
-use Rattle.stores.specs.Keys.{key_of, same_key, fields_at, key_in, key_at, find_key, found_of, FreeIn, entry_at, entries_in, value_word, kept_at, is_passed, EntryTested}
-use Rattle.stores.specs.declared.Found.{Found}
-use Rattle.stores.specs.declared.Found.TheVariants.{At, Nothing}
+use Rattle.stores.specs.Keys.{key_of, same_key, fields_at, key_in, key_at, find_key, FreeIn, entry_at, entries_in, value_word, kept_at, EntryTested}
+use mir.Syntax.{w8}
+use mir.Val.{Fits}
+use Rattle.stores.proofs.Parts.{keyed-bytes}
 use Rattle.stores.proofs.Searches.{same-key, key-refl, found_below, nothing-found, found_at}
 
 -- ---- Reading entries
@@ -281,31 +283,27 @@ module _ (s : Sheet) (store : List ℕ) (j : ℕ) where
 module _ (types : List ℕ) (attributes nodes : ℕ) (store : List ℕ) (j : ℕ) (index : List ℕ) {r : Bool} (alone : Alone types attributes nodes store j r) where
   fails : ((s : Sheet) → s.attributes ≡ attributes_in types attributes → node_count s ≡ nodes → read_entries s j [] store ≡ accepted (entries_in s store j)
       → false ≡ is_entry s (entries_in s store j) (take 12 (drop (12 * j) store)))
-      → EntryTested types attributes nodes store j index trial.Fails
-  unfolding is_passed
-  fails answer =
-      record {
-        answer = answer;
-        keyed = λ cell e. absurd (let z : ◌≡◌ {A = ℕ} 0 1 = cc in omega arith);
-        new = λ cell e. absurd (let z : ◌≡◌ {A = ℕ} 0 1 = cc in omega arith);
-        free = λ cell e. absurd (let z : ◌≡◌ {A = ℕ} 0 1 = cc in omega arith);
-      }
+      → EntryTested types attributes nodes store j index none
+  fails answer = record { answer = answer; keyed = λ cell e. cc; new = λ cell e. cc; free = λ cell e. cc }
 
-  pub entry-fails : not r ≡ true → EntryTested types attributes nodes store j index trial.Fails
+  pub entry-fails : not r ≡ true → EntryTested types attributes nodes store j index none
   entry-fails t = fails λ s a n q. fails-after s store j types attributes nodes a n alone t (entries_in s store j)
 
-  module _ (passed : not r ≡ false) {f : Fields} (at : f ≡ fields_at store j) {q : Key} (key : q ≡ key_in f) (found : Found) (answer : found_of found ≡ find_key store j q) where
-    pub entry_known : (i : ℕ) → found ≡ At i → EntryTested types attributes nodes store j index trial.Fails
-    entry_known i e = fails λ s a n reads. known-fails s store j types attributes nodes a n alone passed reads i (found_at store j answer (key ∙ ap key_in at) i e)
+  module _ (passed : not r ≡ false) {f : Fields} (at : f ≡ fields_at store j) {q : Key} (key : q ≡ key_in f) (found : Result ℕ ℕ)
+      (answer : result_ok found ≡ find_key store j q) (free : FreeIn index q found) (small : (i : ℕ) → Fits w8 (get_or store i 0)) where
+    same : q ≡ key_at store j
+    same = key ∙ ap key_in at
 
-    pub entry_new : Keyed (key_in f) → FreeIn index q found → (cell : ℕ) → found ≡ Nothing cell → EntryTested types attributes nodes store j index (trial.Passes cell)
-    unfolding is_passed
-    entry_new keyed free cell e =
-        let same : q ≡ key_at store j = key ∙ ap key_in at in
-        let new = nothing-found store j answer same e in
-        record {
-          answer = λ s a n reads. new-passes s store j types attributes nodes a n alone passed reads new;
-          keyed = λ c f. rw at at keyed;
-          new = λ c f. new;
-          free = λ c f. let is : cell ≡ c = cc in rw (is, same) at (rw e at free);
-        }
+    pub entry_searched : {tested : Option ℕ} → tested ≡ result_err found → EntryTested types attributes nodes store j index tested
+    entry_searched is = rw is (go found refl)
+      where
+        go : (o : Result ℕ ℕ) → found ≡ o → EntryTested types attributes nodes store j index (result_err o)
+        go (Ok i) e = fails λ s a n reads. known-fails s store j types attributes nodes a n alone passed reads i (found_at store j answer same i e)
+        go (Err cell) e =
+            let new = nothing-found store j answer same e in
+            record {
+              answer = λ s a n reads. new-passes s store j types attributes nodes a n alone passed reads new;
+              keyed = λ c f. keyed-bytes store small j;
+              new = λ c f. new;
+              free = λ c f. let here : cell ≡ c = cc in rw (here, same) at (rw e at free);
+            }

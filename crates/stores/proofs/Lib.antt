@@ -2,6 +2,7 @@ pub mod Parts
 pub mod Searches
 pub mod Digits
 pub mod Walks
+pub mod Looking
 pub mod Linked
 pub mod ByKey
 pub mod Written

@@ -1,54 +1,58 @@
 -- The index of a store: the walk of a key comes to the entry that a search of all the entries finds.
 use mathlib.Core.List.{List}
-use mathlib.Core.Option.{none}
-use mathlib.Core.Path.{◌≡◌, sym, ◌∙◌}
+use Rattle.std.specs.Prelude.{None as none}
+use Rattle.std.specs.Prelude.{Result, Ok, Err, IsErr}
+use Rattle.std.specs.Result.{result_ok}
+use mathlib.Core.Path.{◌≡◌, refl, sym, ◌∙◌}
 use Prim.Native.Nat.{ℕ, ◌+◌, ◌*◌, ◌≤◌, ◌<◌}
+use native.Mathlib.Nat.{le_refl}
 use native.Mathlib.Omega.{arith}
 use lib.ListN.{length, take, get_or}
+use Rattle.saiga.specs.Limits.{entry_limit}
 use Rattle.values.specs.Cells.{emptied}
 use Rattle.values.proofs.Cells.{emptied-length, emptied-inside}
 use Rattle.stores.specs.declared.Key.{Key}
-use Rattle.stores.specs.declared.Found.TheVariants.{At, Nothing}
 use Rattle.stores.specs.declared.Seen.{Seen}
-use Rattle.stores.specs.declared.Seen.TheVariants.{Empty, Has}
-use Rattle.stores.specs.Walks.{bucket_count, bucket_of, Keyed, trail_of, Free, Without, planted}
-use Rattle.stores.specs.Keys.{links_size, key_at, find_key, seen_in, found_of, Linked}
+use Rattle.stores.specs.Walks.{bucket_count, Keyed, Free, Without, planted}
+use Rattle.stores.specs.Keys.{links_size, key_at, find_key, seen_in, other_in, FreeIn, Linked}
+use Rattle.stores.specs.Search.{Cells, Searched}
 use Rattle.stores.proofs.Parts.{key-same}
 use Rattle.stores.proofs.Searches.{find_none, none_has, find-only}
-use Rattle.stores.proofs.Walks.{Searching, search-starts, cell-small, sees-none, sees-key, free-small, trie-more, trie-none, trie-same}
+use Rattle.stores.proofs.Walks.{others-seen, free-small, trie-more, trie-none, trie-same}
 
--- ---- What the search finds at a cell
+-- ---- What a search finds
 
-module _ (store : List ℕ) (k : ℕ) (index : List ℕ) (l : Linked store k index) (q : Key) (cell rest passed : ℕ)
-    (at : Searching (key_at store) index q cell rest passed) where
-  pub look-stands : 12 * get_or index cell 0 ≤ length store
-  look-stands = omega (arith, l.trie.within cell (cell-small _ _ k index l.trie q cell rest passed at), l.stands)
+-- One who may look at the cells of the index, and sees there the entries of the store.
+module _ (store : List ℕ) (k : ℕ) (index : List ℕ) (l : Linked store k index) (q : Key) (may : ℕ → Type 0) (sees : ℕ → Seen → Type 0)
+    (open_to : (cell : ℕ) → cell < length index → 12 * get_or index cell 0 ≤ length store → may cell)
+    (shows : (cell : ℕ) (seen : Seen) → sees cell seen → seen ≡ seen_in (key_at store) q (get_or index cell 0)) where
+  abbrev pub store-cells : Cells q may sees
+  store-cells =
+      record {
+        keys = key_at store;
+        limit = entry_limit;
+        count = k;
+        index = index;
+        trie = l.trie;
+        room = le_refl entry_limit;
+        open_to = λ cell h. open_to cell (omega (arith, h, l.trie.size, l.trie.few)) (omega (arith, l.trie.within cell h, l.stands));
+        shows = λ cell seen h. shows cell seen;
+      }
 
-  module _ {seen : Seen} (is : seen ≡ seen_in (key_at store) q (get_or index cell 0)) where
-    pub sees-nothing : seen ≡ Empty → found_of (Nothing cell) ≡ find_key store k q
-    unfolding found_of
-    sees-nothing e = sym (find_none store k q (sees-none _ _ k index l.trie q cell rest passed at is e))
+  module _ (r : Result ℕ ℕ) (found : (c : Cells q may sees) → Searched c.keys c.count c.index q r) where
+    finds : (o : Result ℕ ℕ) → Searched (key_at store) k index q o → result_ok o ≡ find_key store k q
+    finds (Ok j) (below, has) = sym (find-only store k q j below has (λ i h same. l.trie.differ i j h below (same ∙ sym has)))
+    finds (Err cell) (free, none_has) = sym (find_none store k q none_has)
 
-    pub sees-entry : (j : ℕ) → seen ≡ Has j → found_of (At j) ≡ find_key store k q
-    unfolding found_of
-    sees-entry j e =
-        let (below, has) = sees-key _ _ k index l.trie q cell rest passed at is j e in
-        sym (find-only store k q j below has (λ i h same. l.trie.differ i j h below (same ∙ sym has)))
+    pub finds-key : result_ok r ≡ find_key store k q
+    finds-key = finds r (found store-cells)
 
--- and in the bucket
-module _ (store : List ℕ) (k : ℕ) (index : List ℕ) (l : Linked store k index) (q : Key) (b : ℕ) (bucket : b ≡ bucket_of q) where
-  abbrev starts : Searching (key_at store) index q b (trail_of q) 0
-  starts = search-starts _ _ q b bucket
+    free : (o : Result ℕ ℕ) → Searched (key_at store) k index q o → FreeIn index q o
+    free (Ok j) s = tt
+    free (Err cell) s = s.0
 
-  pub first-stands : 12 * get_or index b 0 ≤ length store
-  first-stands = look-stands store k index l q b _ 0 starts
-
-  module _ {seen : Seen} (is : seen ≡ seen_in (key_at store) q (get_or index b 0)) where
-    pub first-nothing : seen ≡ Empty → found_of (Nothing b) ≡ find_key store k q
-    first-nothing e = sees-nothing store k index l q b _ 0 starts is e
-
-    pub first_entry : (j : ℕ) → seen ≡ Has j → found_of (At j) ≡ find_key store k q
-    first_entry j e = sees-entry store k index l q b _ 0 starts is j e
+    pub finds-cell : FreeIn index q r
+    finds-cell = free r (found store-cells)
 
 -- ---- The index with no entry, with one more, and over other bytes behind the entries
 
@@ -75,6 +79,33 @@ linked-same store store' k e index h l =
     record { stands = h; trie = trie-same _ _ _ k index (λ j g. key-same store store' k j e g) l.trie }
 
 -- The index of a store in which a key is not found.
-pub linked-without : (store : List ℕ) (k : ℕ) (index : List ℕ) (q : Key) → Linked store k index → Keyed q → find_key store k q ≡ none → Without index q
-linked-without store k index q l keyed absent =
-    record { keys = key_at store; count = k; trie = l.trie; keyed = keyed; none_has = none_has store k q absent }
+pub linked-without : (store : List ℕ) (k : ℕ) (index : List ℕ) (q : Key) → Linked store k index → find_key store k q ≡ none → Without index q
+linked-without store k index q l absent =
+    record { keys = key_at store; count = k; trie = l.trie; none_has = none_has store k q absent }
+
+-- One who may look at the cells of the index, and takes each entry that he sees there for another's.
+module _ (index : List ℕ) (q : Key) (w : Without index q) (may : ℕ → Type 0) (sees : ℕ → Seen → Type 0) (open_to : (cell : ℕ) → cell < length index → may cell)
+    (shows : (cell : ℕ) (seen : Seen) → sees cell seen → seen ≡ other_in (get_or index cell 0)) where
+  abbrev pub cells-past : Cells q may sees
+  cells-past =
+      record {
+        keys = w.keys;
+        limit = entry_limit;
+        count = w.count;
+        index = index;
+        trie = w.trie;
+        room = le_refl entry_limit;
+        open_to = λ cell h. open_to cell (omega (arith, h, w.trie.size, w.trie.few));
+        shows = λ cell seen h s. shows cell seen s ∙ others-seen w.keys q w.count w.none_has (get_or index cell 0) (w.trie.within cell h);
+      }
+
+  module _ (r : Result ℕ ℕ) (found : (c : Cells q may sees) → Searched c.keys c.count c.index q r) where
+    pub passes-all : IsErr r
+    passes-all = go r (found cells-past)
+      where
+        go : (o : Result ℕ ℕ) → Searched w.keys w.count index q o → IsErr o
+        go (Ok j) (below, has) = absurd (w.none_has j below has)
+        go (Err cell) s = refl
+
+    pub ends-free : (cell : ℕ) → r ≡ Err cell → Free index q cell
+    ends-free cell e = let (free, none_has) = rw e at (found cells-past) in free

@@ -5,12 +5,11 @@ use Prim.Native.Nat.{ℕ, zero, suc, ◌+◌, ◌*◌, ◌^◌, ◌≤◌, ◌<�
 use native.Mathlib.Omega.{arith}
 use lib.ListN.{take, drop, get_or}
 use lib.Seq.{take-take, drop-drop, get_or-take, get_or-drop}
-use mir.Syntax.{w8}
+use mir.Syntax.{w8, w16}
 use mir.Val.{Fits}
 use Rattle.saiga.specs.Values.{of_bytes}
 use Rattle.saiga.specs.Store.{fields_of}
 use Rattle.values.proofs.Bytes.{bytes_below}
-use Rattle.stores.specs.declared.Key.{Key}
 use Rattle.stores.specs.Walks.{Keyed}
 use Rattle.stores.specs.Keys.{fields_at, key_in, key_at}
 
@@ -41,24 +40,23 @@ module _ (store : List ℕ) (j : ℕ) where
     value = (hv ∙ ap of_bytes (sym (part_at 8 4 (omega arith)))) i;
   }
 
-  -- What the bytes of an entry hold is a key of bytes.
-  keyed-bytes : ((i : ℕ) → Fits w8 (get_or store i 0)) → Keyed (key_at store j)
+-- What so many bytes hold is below so many powers of 256.
+module _ (store : List ℕ) (small : (i : ℕ) → Fits w8 (get_or store i 0)) where
+  part-below : (at n : ℕ) → of_bytes (take n (drop at store)) < 256 ^ n
+  part-below at n = bytes_below n (drop at store) (λ i. rw (get_or-drop at store i 0) (small (at + i)).fits)
+
+  pub two-small : (at n : ℕ) → n ≡ of_bytes (take 2 (drop at store)) → Fits w16 n
+  two-small at n e = record { fits = rw e (part-below at 2) }
+
+  -- The bytes of an entry hold a key.
+  pub keyed-bytes : (j : ℕ) → Keyed (key_at store j)
   unfolding fields_at fields_of key_in
-  keyed-bytes small =
-      let below : (at n : ℕ) → of_bytes (take n (drop at store)) < 256 ^ n = λ at n. bytes_below n (drop at store) (λ i. rw (get_or-drop at store i 0) (small (at + i)).fits) in
+  keyed-bytes j =
       record {
-        node = rw (part-taken 0 2 12 (drop (12 * j) store) (omega arith)) (below (12 * j) 2);
-        attribute = rw (byte_at 2 (omega arith)) (small (12 * j + 2)).fits;
-        word = rw (part_at 4 4 (omega arith)) (below (12 * j + 4) 4);
+        node = rw (part-taken 0 2 12 (drop (12 * j) store) (omega arith)) (part-below (12 * j) 2);
+        attribute = rw (byte_at store j 2 (omega arith)) (small (12 * j + 2)).fits;
+        word = rw (part_at store j 4 4 (omega arith)) (part-below (12 * j + 4) 4);
       }
-
-  pub keyed-read : (n a z w v : ℕ) → n ≡ of_bytes (take 2 (drop (12 * j) store)) → a ≡ get_or store (12 * j + 2) 0 → z ≡ get_or store (12 * j + 3) 0
-      → w ≡ of_bytes (take 4 (drop (12 * j + 4) store)) → v ≡ of_bytes (take 4 (drop (12 * j + 8) store))
-      → ((i : ℕ) → Fits w8 (get_or store i 0)) → Keyed (key_in record { node = n; attribute = a; code = z; parameter = w; value = v })
-  keyed-read n a z w v hn ha hz hw hv small = rw (fields_read n a z w v hn ha hz hw hv) (keyed-bytes small)
-
-pub keyed-as : {p q : Key} → q ≡ p → Keyed p → Keyed q
-keyed-as e keyed = rw e keyed
 
 -- The first k entries stand in the first 12 * k bytes.
 key-taken : (store : List ℕ) (k j : ℕ) → j < k → key_at (take (12 * k) store) j ≡ key_at store j

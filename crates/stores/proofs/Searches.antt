@@ -1,17 +1,16 @@
 -- What a search of all the entries finds.
 use mathlib.Core.Bool.{Bool, true, false, cond, and-eq-true_iff, true≢false}
 use mathlib.Core.List.{List}
-use mathlib.Core.Option.{Option, none, some}
+use Rattle.std.specs.Prelude.{Option, None as none, Some as some}
+use Rattle.std.specs.Prelude.{Result, Ok, Err}
+use Rattle.std.specs.Result.{result_ok}
 use mathlib.Core.Path.{◌≡◌, refl, sym, ◌∙◌, ap}
 use Prim.Native.Nat.{ℕ, zero, suc, ◌<◌}
 use native.Mathlib.Omega.{arith}
-use borrow.Author.Tests.{eqb-true, eqb-false, eq-eqb, ne_eqb}
+use borrow.Author.Tests.{eqb-true, eqb-false, eq-eqb}
 use lib.Dec.{eqb}
-use Rattle.saiga.specs.declared.Fields.{Fields}
 use Rattle.stores.specs.declared.Key.{Key}
-use Rattle.stores.specs.Keys.{same_key, fields_at, key_in, key_at, find_key, found_of}
-use Rattle.stores.specs.declared.Found.{Found}
-use Rattle.stores.specs.declared.Found.TheVariants.{At, Nothing}
+use Rattle.stores.specs.Keys.{same_key, key_at, find_key}
 
 -- ---- Keys
 
@@ -19,7 +18,7 @@ pub same-key : (p q : Key) → same_key p q ≡ true → p ≡ q
 unfolding same_key
 same-key p q e i =
     let t = simp and-eq-true_iff at e in
-    record { node = eqb-true p.node q.node t.0.0 i; attribute = eqb-true p.attribute q.attribute t.0.1 i; word = eqb-true p.word q.word t.1 i }
+    record { node = eqb-true p.node q.node t.0 i; attribute = eqb-true p.attribute q.attribute t.1.0 i; word = eqb-true p.word q.word t.1.1 i }
 
 pub key-refl : (q : Key) → same_key q q ≡ true
 unfolding same_key
@@ -27,20 +26,6 @@ key-refl q = rw (eq-eqb q.node q.node refl, eq-eqb q.attribute q.attribute refl,
 
 pub other_key : (p q : Key) → same_key p q ≡ false → p ≡ q → ⊥
 other_key p q e same = true≢false (sym (key-refl q) ∙ rw same at e)
-
--- The code's tests of the numbers f of entry j.
-module _ (store : List ℕ) (j : ℕ) (q : Key) {f : Fields} (at : f ≡ fields_at store j) where
-  pub other-node : (f.node ≡ q.node → ⊥) → false ≡ same_key (key_at store j) q
-  unfolding same_key key_in
-  other-node n = rw (← at, ne_eqb _ _ n)
-
-  pub other-attribute : f.node ≡ q.node → (f.attribute ≡ q.attribute → ⊥) → false ≡ same_key (key_at store j) q
-  unfolding same_key key_in
-  other-attribute n a = rw (← at, eq-eqb _ _ n, ne_eqb _ _ a)
-
-  pub by_word : f.node ≡ q.node → f.attribute ≡ q.attribute → eqb f.parameter q.word ≡ same_key (key_at store j) q
-  unfolding same_key key_in
-  by_word n a = rw (← at, eq-eqb _ _ n, eq-eqb _ _ a)
 
 -- ---- What is found
 
@@ -86,11 +71,9 @@ find-only store k q j below has only = go (find_key store k q) refl
     go (some i) e = let (h, same) = found_below store k q i e in e ∙ ap some (only i h (same-key _ _ same))
 
 -- What the code says of a search.
-module _ (store : List ℕ) (k : ℕ) {p q : Key} {r : Found} (e : found_of r ≡ find_key store k p) (same : p ≡ q) where
-  pub nothing-found : {cell : ℕ} → r ≡ Nothing cell → find_key store k q ≡ none
-  unfolding found_of
-  nothing-found n = rw same at (sym e ∙ ap found_of n)
+module _ (store : List ℕ) (k : ℕ) {p q : Key} {r : Result ℕ ℕ} (e : result_ok r ≡ find_key store k p) (same : p ≡ q) where
+  pub nothing-found : {cell : ℕ} → r ≡ Err cell → find_key store k q ≡ none
+  nothing-found n = rw same at (sym e ∙ ap result_ok n)
 
-  pub found_at : (j : ℕ) → r ≡ At j → find_key store k q ≡ some j
-  unfolding found_of
-  found_at j n = rw same at (sym e ∙ ap found_of n)
+  pub found_at : (j : ℕ) → r ≡ Ok j → find_key store k q ≡ some j
+  found_at j n = rw same at (sym e ∙ ap result_ok n)

@@ -10,18 +10,44 @@ use lib.Dec.{eqb, leb, lit<}
 use lib.ListN.{length, get_or, set, length-set}
 use lib.Seq.{get_or-set_same, get_or-set_other}
 use borrow.Author.Tests.{eqb-true, eqb-false, eq-eqb, ne_eqb, leb-true, leb-false}
-use Rattle.saiga.specs.Limits.{entry_limit}
 use Rattle.values.specs.Cells.{emptied}
 use Rattle.values.proofs.Cells.{emptied-length, emptied-inside, emptied-outside}
 use Rattle.stores.specs.declared.Key.{Key}
-use Rattle.stores.specs.Walks.{bucket_count, fan_out, first_cell, cell_of, bucket_of, Keyed, key_digits, trail_of, rest_after, digit_at, Agree, walk, Passes, Free, Without, First, Below, Trie, planted}
+use Rattle.stores.specs.Walks.{bucket_count, fan_out, first_cell, cell_of, bucket_of, Keyed, key_digits, trail_of, rest_after, digit_at, Agree, walk, Passes, Free, First, Below, Trie, planted}
 use Rattle.stores.specs.declared.Seen.{Seen}
 use Rattle.stores.specs.declared.Seen.TheVariants.{Empty, Has, Other}
-use Rattle.stores.specs.Keys.{same_key, seen_in}
+use Rattle.stores.specs.Keys.{same_key, seen_in, other_in}
 use Rattle.stores.proofs.Searches.{same-key, other_key}
 use Rattle.stores.proofs.Digits.{same-trail}
 
--- ---- What is seen at a cell that holds so much
+-- ---- What is seen at a cell that holds n
+
+-- The code's tests of it.
+module _ (n m : ℕ) (is : m ≡ n) where
+  pub other-empty : m ≡ 0 → Empty ≡ other_in n
+  unfolding other_in
+  other-empty e = rw (← is, e) refl
+
+  pub looks-empty : (keys : ℕ → Key) (q : Key) → m ≡ 0 → Empty ≡ seen_in keys q n
+  unfolding seen_in
+  looks-empty keys q e = rw (← is, e) refl
+
+  module _ (more : m ≡ 0 → ⊥) where
+    entry : n ≡ suc (m - 1)
+    entry = omega (arith, is, more)
+
+    pub other_entry : Other (m - 1) ≡ other_in n
+    unfolding other_in
+    other_entry = rw entry refl
+
+    module _ (keys : ℕ → Key) (q : Key) {has : Bool} (key : has ≡ same_key (keys (m - 1)) q) where
+      pub looks-has : has ≡ true → Has (m - 1) ≡ seen_in keys q n
+      unfolding seen_in
+      looks-has e = rw (entry, ← key, e) refl
+
+      pub looks-other : has ≡ false → Other (m - 1) ≡ seen_in keys q n
+      unfolding seen_in
+      looks-other e = rw (entry, ← key, e) refl
 
 module _ (keys : ℕ → Key) (q : Key) where
   abbrev Shows : ℕ → Seen → Type 0
@@ -38,31 +64,23 @@ module _ (keys : ℕ → Key) (q : Key) where
       go true e = (refl, same-key _ _ e)
       go false e = (refl, other_key _ _ e)
 
-  -- The code's tests of what the cell holds.
-  module _ (n : ℕ) where
-    pub looks-empty : (index : List ℕ) (cell : ℕ) → n ≡ get_or index cell 0 → n ≡ 0 → Empty ≡ seen_in keys q (get_or index cell 0)
-    unfolding seen_in
-    looks-empty index cell is e = rw (← is, e)
+  -- Where none of the first k entries has the key, each is another's.
+  pub others-seen : (k : ℕ) → ((j : ℕ) → j < k → keys j ≡ q → ⊥) → (n : ℕ) → n ≤ k → other_in n ≡ seen_in keys q n
+  unfolding seen_in other_in
+  others-seen k none_has zero h = refl
+  others-seen k none_has (suc j) h = rw (differs (same_key (keys j) q) refl) refl
+    where
+      differs : (b : Bool) → same_key (keys j) q ≡ b → same_key (keys j) q ≡ false
+      differs true e = absurd (none_has j (omega arith) (same-key _ _ e))
+      differs false e = e
 
-    module _ (index : List ℕ) (cell : ℕ) (is : n ≡ get_or index cell 0) (more : n ≡ 0 → ⊥) {has : Bool} (key : has ≡ same_key (keys (n - 1)) q) where
-      one_more : n ≡ suc (n - 1)
-      one_more = omega (arith, more)
-
-      pub looks-has : has ≡ true → Has (n - 1) ≡ seen_in keys q (get_or index cell 0)
-      unfolding seen_in
-      looks-has e = let content : get_or index cell 0 ≡ suc (n - 1) = sym is ∙ one_more in rw (content, ← key, e)
-
-      pub looks-other : has ≡ false → Other (n - 1) ≡ seen_in keys q (get_or index cell 0)
-      unfolding seen_in
-      looks-other e = let content : get_or index cell 0 ≡ suc (n - 1) = sym is ∙ one_more in rw (content, ← key, e)
-
-  empty-seen : (n : ℕ) → seen_in keys q n ≡ Empty → n ≡ 0
+  pub empty-seen : (n : ℕ) → seen_in keys q n ≡ Empty → n ≡ 0
   empty-seen n e = rw e at (shows n)
 
-  has-seen : (n j : ℕ) → seen_in keys q n ≡ Has j → (n ≡ suc j) × (keys j ≡ q)
+  pub has-seen : (n j : ℕ) → seen_in keys q n ≡ Has j → (n ≡ suc j) × (keys j ≡ q)
   has-seen n j e = rw e at (shows n)
 
-  other-seen : (n j : ℕ) → seen_in keys q n ≡ Other j → (n ≡ suc j) × (keys j ≡ q → ⊥)
+  pub other-seen : (n j : ℕ) → seen_in keys q n ≡ Other j → (n ≡ suc j) × (keys j ≡ q → ⊥)
   other-seen n j e = rw e at (shows n)
 
 -- ---- The walk of a key
@@ -141,7 +159,7 @@ module _ (keys : ℕ → Key) (limit k : ℕ) (index : List ℕ) (l : Trie keys 
     cell-small = rw at.at-cell (walk-small passed at.passes)
 
     -- An empty cell: an entry with the key would be passed, or stand here.
-    search-ends : get_or index cell 0 ≡ 0 → (j : ℕ) → j < k → keys j ≡ q → ⊥
+    pub search-ends : get_or index cell 0 ≡ 0 → (j : ℕ) → j < k → keys j ≡ q → ⊥
     search-ends empty j h has = go (leb passed (l.depth j)) refl
       where
         here : get_or index (walk index q passed) 0 ≡ 0
@@ -169,7 +187,7 @@ module _ (keys : ℕ → Key) (limit k : ℕ) (index : List ℕ) (l : Trie keys 
       entry-below = let kept = l.within cell cell-small in omega (arith, kept, stands)
 
       -- An entry with another key differs from it in a digit, so that digits are left.
-      search-goes-on : Keyed q → (keys j ≡ q → ⊥) → Searching keys index q (cell_of j (rest % 8)) (rest / 8) (suc passed)
+      pub search-goes-on : Keyed q → (keys j ≡ q → ⊥) → Searching keys index q (cell_of j (rest % 8)) (rest / 8) (suc passed)
       unfolding walk rest_after
       search-goes-on keyed differs =
           record {
@@ -195,121 +213,6 @@ module _ (keys : ℕ → Key) (limit k : ℕ) (index : List ℕ) (l : Trie keys 
               let entry : j ≡ i = omega arith in
               differs (rw entry has)
           others-on d i h false b found has = let other = eqb-false d passed b in at.others d i (omega arith) found has
-
-    pub look-inside : cell < length index
-    look-inside = omega (arith, cell-small, l.size, l.few)
-
-    -- What the code sees there.
-    module _ {seen : Seen} (is : seen ≡ seen_in keys q (get_or index cell 0)) where
-      pub sees-none : seen ≡ Empty → (j : ℕ) → j < k → keys j ≡ q → ⊥
-      sees-none e = search-ends (empty-seen keys q _ (sym is ∙ e))
-
-      pub sees-free : seen ≡ Empty → Free index q cell
-      sees-free e = record { passed = passed; passes = at.passes; comes = at.at-cell; empty = empty-seen keys q _ (sym is ∙ e) }
-
-      pub sees-key : (j : ℕ) → seen ≡ Has j → (j < k) × (keys j ≡ q)
-      sees-key j e = let (stands, has) = has-seen keys q _ j (sym is ∙ e) in (entry-below j stands, has)
-
-      module _ (j : ℕ) (other : seen ≡ Other j) where
-        stands_here : get_or index cell 0 ≡ suc j
-        stands_here = (other-seen keys q _ j (sym is ∙ other)).0
-
-        pub other-below : j < limit
-        other-below = omega (arith, entry-below j stands_here, l.few)
-
-        goes_on : Keyed q → Searching keys index q (cell_of j (rest % 8)) (rest / 8) (suc passed)
-        goes_on keyed = search-goes-on j stands_here keyed (other-seen keys q _ j (sym is ∙ other)).1
-
-        pub sees-other : Keyed q → (cell' : ℕ) → cell' ≡ cell_of j (rest % 8) → Searching keys index q cell' (rest / 8) (passed + 1)
-        sees-other keyed cell' e = rw (e, add-one) (goes_on keyed)
-
-  -- ---- The first entry of the bucket
-
-  module _ (b : ℕ) (bucket : b ≡ bucket_of q) where
-    pub first-inside : b < length index
-    first-inside = look-inside b _ 0 (search-starts _ _ q b bucket)
-
-    pub first-free : {seen : Seen} → seen ≡ seen_in keys q (get_or index b 0) → seen ≡ Empty → Free index q b
-    first-free is e = sees-free b _ 0 (search-starts _ _ q b bucket) is e
-
-    pub first-other : {seen : Seen} → seen ≡ seen_in keys q (get_or index b 0) → (j : ℕ) → seen ≡ Other j → seen_in keys q (get_or index (bucket_of q) 0) ≡ Other j
-    first-other is j e = sym (rw bucket at is) ∙ e
-
-  module _ (j : ℕ) (other : seen_in keys q (get_or index (bucket_of q) 0) ≡ Other j) where
-    pub first_below : j < limit
-    first_below = other-below _ _ 0 (search-starts _ _ q _ refl) refl j other
-
-    pub search-goes-below : Keyed q → (whole cell : ℕ) → whole ≡ trail_of q → cell ≡ cell_of j (whole % 8) → Searching keys index q cell (whole / 8) 1
-    search-goes-below keyed whole cell e f = rw (f, e) (goes_on _ _ 0 (search-starts _ _ q _ refl) refl j other keyed)
-
--- ---- Where no entry has the key
-
-module _ (index : List ℕ) (q : Key) (w : Without index q) (cell rest passed : ℕ) (at : Searching w.keys index q cell rest passed) where
-  past-inside : cell < length index
-  past-inside = look-inside w.keys entry_limit w.count index w.trie q cell rest passed at
-
-  -- The walk ends at an empty cell, and passes every entry.
-  past-free : get_or index cell 0 ≡ 0 → Free index q cell
-  past-free empty = record { passed = passed; passes = at.passes; comes = at.at-cell; empty = empty }
-
-  module _ (more : get_or index cell 0 ≡ 0 → ⊥) where
-    stands-past : get_or index cell 0 ≡ suc (get_or index cell 0 - 1)
-    stands-past = omega (arith, more)
-
-    entry_past : get_or index cell 0 - 1 < w.count
-    entry_past = entry-below w.keys entry_limit w.count index w.trie q cell rest passed at _ stands-past
-
-    goes-past : Searching w.keys index q (cell_of (get_or index cell 0 - 1) (rest % 8)) (rest / 8) (suc passed)
-    goes-past =
-        search-goes-on w.keys entry_limit w.count index w.trie q cell rest passed at (get_or index cell 0 - 1) stands-past w.keyed
-        (w.none_has _ entry_past)
-
--- The loop of the code, which does not look at the key, walks for every key of this trail whose bucket has this first entry.
-abbrev pub Walking : List ℕ → ℕ → ℕ → ℕ → ℕ → ℕ → Type 0
-Walking index first whole cell rest passed =
-    (q : Key) (w : Without index q) → get_or index (bucket_of q) 0 ≡ first + 1 → whole ≡ trail_of q → Searching w.keys index q cell rest passed
-
-pub walking-starts : (index : List ℕ) (first whole cell : ℕ) → cell ≡ cell_of first (whole % 8) → Walking index first whole cell (whole / 8) 1
-walking-starts index first whole cell is q w stands trail =
-    let entry-is : get_or index (bucket_of q) 0 - 1 ≡ first = omega (arith, stands) in
-    rw (is, trail) (rw entry-is at (goes-past index q w (bucket_of q) _ 0 (search-starts _ _ q _ refl) (omega (arith, stands))))
-
-pub walking_on : (index : List ℕ) (first whole cell rest passed : ℕ) → Walking index first whole cell rest passed → (n : ℕ) → n ≡ get_or index cell 0 → (n ≡ 0 → ⊥)
-    → (cell' : ℕ) → cell' ≡ cell_of (n - 1) (rest % 8) → Walking index first whole cell' (rest / 8) (passed + 1)
-walking_on index first whole cell rest passed at n is more cell' e q w stands trail =
-    rw (e, is, add-one) (goes-past index q w cell rest passed (at q w stands trail) (λ empty. more (is ∙ empty)))
-
-module _ (index : List ℕ) (q : Key) (w : Without index q) where
-  -- the first entry of the bucket
-  pub bucket-inside : (b : ℕ) → b ≡ bucket_of q → b < length index
-  bucket-inside b bucket = past-inside index q w b _ 0 (search-starts _ _ q b bucket)
-
-  pub bucket-free : (b : ℕ) → b ≡ bucket_of q → (n : ℕ) → n ≡ get_or index b 0 → n ≡ 0 → Free index q b
-  bucket-free b bucket n is empty = past-free index q w b _ 0 (search-starts _ _ q b bucket) (sym is ∙ empty)
-
-  pub bucket-stands : (b : ℕ) → b ≡ bucket_of q → (n : ℕ) → n ≡ get_or index b 0 → (n ≡ 0 → ⊥) → get_or index (bucket_of q) 0 ≡ n - 1 + 1
-  bucket-stands b bucket n is more = omega (arith, rw bucket at is, more)
-
-  pub bucket-below : (first : ℕ) → get_or index (bucket_of q) 0 ≡ first + 1 → first < entry_limit
-  bucket-below first stands =
-      omega (arith, entry_past index q w (bucket_of q) _ 0 (search-starts _ _ q _ refl) (omega (arith, stands)), w.trie.few, stands)
-
-  -- what the loop walks for
-  module _ (first whole : ℕ) (stands : get_or index (bucket_of q) 0 ≡ first + 1) (trail : whole ≡ trail_of q)
-      (cell rest passed : ℕ) (at : Walking index first whole cell rest passed) where
-    pub walking-inside : cell < length index
-    walking-inside = past-inside index q w cell rest passed (at q w stands trail)
-
-    pub walking-free : (n : ℕ) → n ≡ get_or index cell 0 → n ≡ 0 → Free index q cell
-    walking-free n is empty = past-free index q w cell rest passed (at q w stands trail) (sym is ∙ empty)
-
-    pub walking-below : (n : ℕ) → n ≡ get_or index cell 0 → (n ≡ 0 → ⊥) → n - 1 < entry_limit
-    walking-below n is more =
-        omega (arith, entry_past index q w cell rest passed (at q w stands trail) (λ empty. more (is ∙ empty)), w.trie.few, is)
-
-    -- An entry that has every digit has the key, so the walk ends before.
-    pub walking-over : key_digits < passed → Free index q cell
-    walking-over over = absurd (omega (arith, (at q w stands trail).within))
 
 -- ---- Cells are written
 

@@ -1,25 +1,23 @@
 -- An entry is written: the store that a call leaves grows by it, and the entries before it stay.
 use mathlib.Core.List.{List, [], ◌∷◌, ◌++◌, append_assoc, append-nil}
-use mathlib.Core.Option.{none}
+use Rattle.std.specs.Prelude.{None as none}
 use mathlib.Core.Path.{◌≡◌, refl, sym, ◌∙◌, ap}
 use Prim.Native.Nat.{ℕ, ◌+◌, ◌*◌, ◌≤◌, ◌<◌}
 use native.Mathlib.Numerals.{towards_suc}
 use native.Mathlib.Omega.{arith}
 use lib.ListN.{length, take, drop, set, length-append, length-take, length-drop}
 use lib.Seq.{sets, sets-eq, length-take-le, take_at, drop_at, drop-append-le, drop-append-add, drop-drop}
-use Rattle.saiga.specs.Values.{to_bytes, to_word, type_code}
+use Rattle.saiga.specs.Values.{word_limit, to_bytes}
 use Rattle.saiga.specs.Caching.{Entry}
 use Rattle.saiga.specs.declared.Fields.{Fields}
-use Rattle.saiga.specs.declared.Value.{Value}
 use Rattle.saiga.specs.Store.{field_bytes, fields_of, entry_bytes, entries_bytes, left_store}
 use Rattle.saiga.proofs.FourBytes.{bytes-trip}
 use Rattle.saiga.proofs.Entries.{entries-length}
-use Rattle.stores.specs.declared.Key.{Key}
 use Rattle.stores.specs.Walks.{Keyed, Free, planted}
-use Rattle.stores.specs.Keys.{fields_at, key_in, key_at, find_key, fields_for, put_at, Linked, EntryPut}
+use Rattle.stores.specs.Keys.{fields_at, key_in, key_at, find_key, put_at, Linked, EntryPut}
 use Rattle.stores.proofs.Parts.{key-same}
 use Rattle.stores.proofs.Searches.{find_none, none_has}
-use Rattle.stores.proofs.Linked.{free-inside, linked-same, linked-more}
+use Rattle.stores.proofs.Linked.{linked-same, linked-more}
 
 fields-length : (f : Fields) → length (field_bytes f) ≡ 12
 unfolding field_bytes to_bytes
@@ -44,15 +42,12 @@ module _ (store : List ℕ) (k : ℕ) (fits : 12 * k + 12 ≤ length store) wher
         (take_at (field_bytes f) rest 12 (fields-length f))
 
     -- The code writes an entry's parts one after the other.
-    module _ {noded parametered valued : List ℕ} (n : noded ≡ sets store (12 * k) (to_bytes 2 f.node))
+    module _ {node : ℕ} {noded parametered valued : List ℕ} (wide : node ≡ f.node) (n : noded ≡ sets store (12 * k) (to_bytes 2 node))
         (p : parametered ≡ sets (set (set noded (12 * k + 2) f.attribute) (12 * k + 3) f.code) (12 * k + 4) (to_bytes 4 f.parameter))
         (v : valued ≡ sets parametered (12 * k + 8) (to_bytes 4 f.value)) where
       pub written : valued ≡ put_at store k (field_bytes f)
       unfolding put_at field_bytes to_bytes
-      written = v ∙ rw (p, n) (simp towards_suc refl ∙ sets-eq (field_bytes f) store (12 * k) fits)
-
-      pub written-length : length valued ≡ length store
-      written-length = ap length written ∙ put-length
+      written = v ∙ rw (p, n, wide) (simp towards_suc refl ∙ sets-eq (field_bytes f) store (12 * k) fits)
 
     -- The index over the entries before it stays one.
     linked-put : (index : List ℕ) → Linked store k index → Linked (put_at store k (field_bytes f)) k index
@@ -60,16 +55,12 @@ module _ (store : List ℕ) (k : ℕ) (fits : 12 * k + 12 ≤ length store) wher
 
 -- ---- An entry is written, and put into the index
 
--- an attribute is one byte
-pub attribute-byte : (f : Fields) → Keyed (key_in f) → f.attribute < 256
+pub fields-keyed : (f : Fields) → f.node < 65536 → f.attribute < 256 → f.parameter < word_limit → Keyed (key_in f)
 unfolding key_in
-attribute-byte f keyed = keyed.attribute
+fields-keyed f n a p = record { node = n; attribute = a; word = p }
 
 module _ (store : List ℕ) (k : ℕ) (few : k < 1024) (fits : 12 * k + 12 ≤ length store) (index : List ℕ) (l : Linked store k index) (f : Fields)
     (keyed : Keyed (key_in f)) (new : find_key store k (key_in f) ≡ none) (cell : ℕ) (free : Free index (key_in f) cell) where
-  pub planted-cell : cell < 9216
-  planted-cell = free-inside store k index l few (key_in f) cell free
-
   abbrev put : List ℕ
   put = put_at store k (field_bytes f)
 
@@ -91,12 +82,6 @@ module _ (store : List ℕ) (k : ℕ) (few : k < 1024) (fits : 12 * k + 12 ≤ l
         bytes = written;
         linked = rw (written, linked) (linked-more put k index (linked-put store k fits f index l) few (key_in f) key-put keyed new-put cell free (rw (put-length store k fits f) fits));
       }
-
--- the numbers of the entry that keeps a value for a key
-pub fields-are : (q : Key) (v : Value) {code word : ℕ} → code ≡ type_code v → word ≡ to_word v
-    → record { node = q.node; attribute = q.attribute; code = code; parameter = q.word; value = word } ≡ fields_for q v
-unfolding fields_for
-fields-are q v code word i = record { node = q.node; attribute = q.attribute; code = code i; parameter = q.word; value = word i }
 
 -- ---- The store that a call leaves
 

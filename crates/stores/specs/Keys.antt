@@ -1,25 +1,23 @@
 -- The entries of a store by their keys, and an index over them.
-use Rattle.std.specs.Prelude.{Bool, true, false, ◌&&◌, cond, List, [], ◌∷◌, ◌++◌, ◌≡◌, ℕ, zero, suc, ◌+◌, ◌*◌, ◌≤◌, eqb, length, take, drop}
-use Rattle.std.proofs.Math.Option.{Option, none, some}
-use Rattle.saiga.specs.Limits.{entry_width, entry_limit}
-use Rattle.saiga.specs.Values.{Base, of_word, to_word, type_code}
+use Rattle.std.specs.Prelude.{Bool, ◌&&◌, cond, List, [], ◌∷◌, ◌++◌, ◌≡◌, ℕ, zero, suc, ◌+◌, ◌*◌, ◌%◌, ◌≤◌, eqb, leb, length, take, drop, is_some}
+use Rattle.std.specs.Prelude.{Option, None as none, Some as some}
+use Rattle.std.specs.Prelude.{Result, Ok, Err}
+use Rattle.saiga.specs.Limits.{entry_width, entry_limit, store_limit}
+use Rattle.saiga.specs.Values.{of_word, to_word, type_code}
+use Rattle.saiga.specs.declared.Base.{Base}
 use Rattle.saiga.specs.declared.Value.{Value}
-use Rattle.saiga.specs.Sheet.{Sheet, node_count, Checked, refused◌at_place◌, accepted}
+use Rattle.saiga.specs.Sheet.{Sheet, node_count, Checked, accepted}
+use Rattle.saiga.specs.Stops.{checked_of, says}
+use Rattle.saiga.specs.declared.stops.Refusal.{Refusal}
 use Rattle.values.specs.Layout.{attributes_in}
 use Rattle.saiga.specs.Terms.{Occurrence}
 use Rattle.saiga.specs.Caching.{Entry}
 use Rattle.saiga.specs.declared.Fields.{Fields}
-use Rattle.saiga.specs.Store.{field_bytes, fields_of, entry_of, is_entry, read_entries, check_store}
+use Rattle.saiga.specs.Store.{field_bytes, fields_of, entry_of, is_entry, read_entries, capacity, check_store}
 use Rattle.stores.specs.declared.Key.{Key}
 use Rattle.stores.specs.Walks.{first_cell, Keyed, Free, Trie}
-use Rattle.stores.specs.declared.Found.{Found}
-use Rattle.stores.specs.declared.Found.TheVariants.{At, Nothing}
 use Rattle.stores.specs.declared.Seen.{Seen}
 use Rattle.stores.specs.declared.Seen.TheVariants.{Empty, Has, Other}
-use Rattle.stores.specs.declared.Trial.{Trial}
-use Rattle.stores.specs.declared.Trial.TheVariants as trial
-use Rattle.stores.specs.declared.StoreCheck.{StoreCheck}
-use Rattle.stores.specs.declared.StoreCheck.TheVariants.{Refused, Accepted}
 
 -- ---- Keys
 
@@ -27,7 +25,7 @@ unfoldable pub key_of : Occurrence → Key
 key_of o = record { node = o.node; attribute = o.attribute; word = to_word o.parameter }
 
 unfoldable pub same_key : Key → Key → Bool
-same_key p q = eqb p.node q.node && eqb p.attribute q.attribute && eqb p.word q.word
+same_key p q = eqb p.node q.node && (eqb p.attribute q.attribute && eqb p.word q.word)
 
 -- The numbers of entry j, which its bytes hold, and its key.
 unfoldable pub fields_at : List ℕ → ℕ → Fields
@@ -44,19 +42,20 @@ unfoldable pub find_key : List ℕ → ℕ → Key → Option ℕ
 find_key store zero q = none
 find_key store (suc k) q = cond (same_key (key_at store k) q) (some k) (find_key store k q)
 
--- what the code found: an entry, or the cell where one with the key would stand in the index
-unfoldable pub found_of : Found → Option ℕ
-found_of (At j) = some j
-found_of (Nothing cell) = none
-
-abbrev pub FreeIn : List ℕ → Key → Found → Type 0
-FreeIn index q (At j) = Unit {0}
-FreeIn index q (Nothing cell) = Free index q cell
+-- where no entry is found, the cell that is answered is free for the key
+abbrev pub FreeIn : List ℕ → Key → Result ℕ ℕ → Type 0
+FreeIn index q (Ok j) = Unit {0}
+FreeIn index q (Err cell) = Free index q cell
 
 -- what the code sees at a cell of an index over these keys: nothing, an entry with the key, or one with another
 unfoldable pub seen_in : (ℕ → Key) → Key → ℕ → Seen
 seen_in keys q zero = Empty
 seen_in keys q (suc j) = cond (same_key (keys j) q) (Has j) (Other j)
+
+-- what is seen of a key that no entry has: nothing, or an entry with another
+unfoldable pub other_in : ℕ → Seen
+other_in zero = Empty
+other_in (suc j) = Other j
 
 -- ---- Entries
 
@@ -99,29 +98,27 @@ pub record Linked (store : List ℕ) (k : ℕ) (index : List ℕ) : Type 0 where
 
 -- ---- The check
 
--- what the code answers of an entry
-unfoldable pub is_passed : Trial → Bool
-is_passed (trial.Passes cell) = true
-is_passed trial.Fails = false
+-- "9 store length no multiple of 12 or over 12,288, or kept above capacity": that it is none of these
+unfoldable pub is_shaped : List ℕ → ℕ → Bool
+is_shaped store k = eqb (length store % entry_width) 0 && leb (length store) store_limit && leb k (capacity store)
 
 -- What the test of entry i answers, for every sheet of these attributes and nodes on which those before it pass; and the free cell for its key.
-pub record EntryTested (types : List ℕ) (attributes nodes : ℕ) (store : List ℕ) (i : ℕ) (index : List ℕ) (r : Trial) : Type 0 where
+pub record EntryTested (types : List ℕ) (attributes nodes : ℕ) (store : List ℕ) (i : ℕ) (index : List ℕ) (r : Option ℕ) : Type 0 where
   pub answer : (s : Sheet) → s.attributes ≡ attributes_in types attributes → node_count s ≡ nodes → read_entries s i [] store ≡ accepted (entries_in s store i)
-      → is_passed r ≡ is_entry s (entries_in s store i) (take entry_width (drop (entry_width * i) store))
-  pub keyed : (cell : ℕ) → r ≡ trial.Passes cell → Keyed (key_at store i)
-  pub new : (cell : ℕ) → r ≡ trial.Passes cell → find_key store i (key_at store i) ≡ none
-  pub free : (cell : ℕ) → r ≡ trial.Passes cell → Free index (key_at store i) cell
+      → is_some r ≡ is_entry s (entries_in s store i) (take entry_width (drop (entry_width * i) store))
+  pub keyed : (cell : ℕ) → r ≡ some cell → Keyed (key_at store i)
+  pub new : (cell : ℕ) → r ≡ some cell → find_key store i (key_at store i) ≡ none
+  pub free : (cell : ℕ) → r ≡ some cell → Free index (key_at store i) cell
 
 -- what the code answers of a store
-unfoldable pub store_check_of : Checked (List Entry) → StoreCheck
-store_check_of (refused number at_place place) = Refused number place
-store_check_of (accepted entries) = Accepted
+abbrev pub store_check_of : Checked (List Entry) → Checked (Unit {0})
+store_check_of = says (λ entries. tt)
 
 -- What the check of a store answers, for every sheet of these attributes and nodes, and the index that it leaves.
-pub record StoreChecked (types : List ℕ) (attributes nodes : ℕ) (store : List ℕ) (kept : ℕ) (index : List ℕ) (r : StoreCheck) : Type 0 where
-  pub answer : (s : Sheet) → s.attributes ≡ attributes_in types attributes → node_count s ≡ nodes → r ≡ store_check_of (check_store s store kept)
+pub record StoreChecked (types : List ℕ) (attributes nodes : ℕ) (store : List ℕ) (kept : ℕ) (index : List ℕ) (r : Result (Unit {0}) Refusal) : Type 0 where
+  pub answer : (s : Sheet) → s.attributes ≡ attributes_in types attributes → node_count s ≡ nodes → checked_of r ≡ store_check_of (check_store s store kept)
   pub size : length index ≡ links_size
-  pub linked : r ≡ Accepted → Linked store kept index
+  pub linked : r ≡ Ok tt → Linked store kept index
 
 -- ---- An entry more
 

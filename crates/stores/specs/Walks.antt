@@ -109,7 +109,6 @@ pub record Without (index : List ℕ) (q : Key) : Type 0 where
   pub keys : ℕ → Key
   pub count : ℕ
   pub trie : Trie keys entry_limit count index
-  pub keyed : Keyed q
   pub none_has : (j : ℕ) → j < count → keys j ≡ q → ⊥
 
 -- ---- Writing cells

@@ -2,23 +2,26 @@
 #![tactic(auto)]
 
 ghost use Rattle.std.specs.Prelude.{[], ◌≡◌, ◌+◌, ◌*◌, ◌%◌, ◌≤◌, ◌<◌, length, take, drop, get_or};
-ghost use Rattle.std.proofs.Math.Option.{none};
+ghost use Rattle.std.specs.Prelude.{None as none};
+ghost use Rattle.std.specs.Result.{result_ok};
 ghost use Rattle.values.specs.Layout.{attributes_in};
 ghost use Rattle.saiga.specs.Limits.{entry_width, entry_limit};
 ghost use Rattle.saiga.specs.Sheet.{Sheet, node_count};
 ghost use Rattle.saiga.specs.Store.{field_bytes, is_entry};
-ghost use Rattle.stores.specs.Walks.{bucket_count, fan_out, first_cell, cell_of, bucket_of, trail_of, Keyed, Free, Without, planted};
-ghost use Rattle.stores.specs.declared.Seen.TheVariants.{Other};
-ghost use Rattle.stores.specs.Keys.{links_size, same_key, fields_at, key_in, key_at, find_key, seen_in, found_of, FreeIn, value_word, fields_for, put_at, Linked, EntryTested, StoreChecked, EntryPut};
+ghost use Rattle.stores.specs.Walks.{bucket_count, fan_out, first_cell, cell_of, bucket_of, trail_of, Free, Without, planted};
+ghost use Rattle.stores.specs.Keys.{links_size, same_key, fields_at, key_in, key_at, find_key, seen_in, other_in, FreeIn, value_word, fields_for, put_at, Linked, is_shaped, EntryTested, StoreChecked, EntryPut};
+ghost use Rattle.stores.specs.Search.{Cells, Searched};
 
 use saiga::limits::{ENTRY_LIMIT, ENTRY_WIDTH, STORE_LIMIT};
+use saiga::stops::{Refusal, Stop};
 use saiga::{Fields, Value};
+use values::Declared;
 
 // An occurrence in numbers: its node, its attribute, and its parameter's four-byte form.
-#[derive(Clone, Copy)]
+#[derive(Clone, Copy, PartialEq, Eq)]
 pub struct Key {
-    pub node: u32,
-    pub attribute: u32,
+    pub node: u16,
+    pub attribute: u8,
     pub word: u32,
 }
 
@@ -47,106 +50,98 @@ const TRAIL_STEP: u64 = 8589934592;
 
 const BUCKETS_WIDE: u64 = BUCKETS as u64;
 
-// Where an entry with a key stands, or the free cell of the index where one would.
-#[derive(Clone, Copy)]
-pub enum Found {
-    At(usize),
-    Nothing(usize),
-}
-
 // What is seen at a cell of the index by one who looks for a key: nothing, an entry with the key, or one with another.
-#[derive(Drop)]
+#[derive(Clone, Copy)]
 pub enum Seen {
     Empty,
     Has(usize),
     Other(usize),
 }
 
-// Whether an entry passes, and then the free cell for it in the index.
-#[derive(Drop)]
-enum Trial {
-    Passes(usize),
-    Fails,
-}
-
-// Stop 9 or 10 with its place, or a store that passes.
-#[derive(Drop)]
-pub enum StoreCheck {
-    Refused(u32, usize),
-    Accepted,
-}
-
-// The numbers of entry i.
+// The numbers of entry i. Whether it stands within the store hangs on i, so each function that reads one asks for it.
 fn entry_at(store: &[u8], i: usize) -> Fields
     requires { entry_width * i + entry_width ≤ length store.now }
-    ensures { (result ≡ fields_at store.now i) × Keyed (key_in result) }
+    ensures { result ≡ fields_at store.now i }
 {
     let at = ENTRY_WIDTH * i;
     Fields {
-        node: values::two(store, at),
-        attribute: values::wide(store[at + 2]),
+        node: values::number_at::<2>(store, at) as u16,
+        attribute: store[at + 2],
         code: store[at + 3],
-        parameter: values::four(store, at + 4),
-        value: values::four(store, at + 8),
+        parameter: values::number_at::<4>(store, at + 4),
+        value: values::number_at::<4>(store, at + 8),
     }
 }
 
 // The numbers of entry i are written.
 fn put_entry(store: &mut [u8], i: usize, e: Fields)
-    requires { (entry_width * i + entry_width ≤ length store.old) × (e.attribute < 256) }
+    requires { entry_width * i + entry_width ≤ length store.old }
     ensures { store.new ≡ put_at store.old i (field_bytes e) }
 {
     let at = ENTRY_WIDTH * i;
-    values::put_two(store, at, e.node);
-    store[at + 2] = e.attribute as u8;
+    values::put_number::<2>(store, at, u32::from(e.node));
+    store[at + 2] = e.attribute;
     store[at + 3] = e.code;
-    values::put_four(store, at + 4, e.parameter);
-    values::put_four(store, at + 8, e.value);
+    values::put_number::<4>(store, at + 4, e.parameter);
+    values::put_number::<4>(store, at + 8, e.value);
 }
 
 // The key of an entry.
-fn key_in(e: Fields) -> Key
-    ensures { result ≡ key_in e }
-{
-    Key {
-        node: e.node,
-        attribute: e.attribute,
-        word: e.parameter,
+impl From<Fields> for Key {
+    ghost from_gives = { λ e q. q ≡ key_in e };
+
+    #[tactic(auto, unfolding(crate::specs::Keys::key_in))]
+    fn from(e: Fields) -> Key {
+        Key {
+            node: e.node,
+            attribute: e.attribute,
+            word: e.parameter,
+        }
+    }
+}
+
+impl Key {
+    // The numbers of the entry that keeps a value for the key.
+    #[tactic(auto, unfolding(crate::specs::Keys::fields_for))]
+    pub fn fields(self, value: Value) -> Fields
+        ensures { result ≡ fields_for self value }
+    {
+        Fields {
+            node: self.node,
+            attribute: self.attribute,
+            code: values::type_code(value),
+            parameter: self.word,
+            value: values::word_of(value),
+        }
     }
 }
 
 // The bucket of a key.
+#[tactic(auto, unfolding(crate::specs::Walks::bucket_of))]
 pub fn bucket(key: Key) -> usize
-    requires { Keyed key }
     ensures { (result ≡ bucket_of key) × (result < bucket_count) }
 {
-    let turn = (key.attribute as u64 * ATTRIBUTE_TURN + key.word as u64 * WORD_TURN) / TURN;
-    ((key.node as u64 + turn) % BUCKETS_WIDE) as usize
+    let turn = (u64::from(key.attribute) * ATTRIBUTE_TURN + u64::from(key.word) * WORD_TURN) / TURN;
+    ((u64::from(key.node) + turn) % BUCKETS_WIDE) as usize
 }
 
 // The trail of a key: what its bucket does not tell.
+#[tactic(auto, unfolding(crate::specs::Walks::trail_of))]
 pub fn trail(key: Key) -> u64
-    requires { Keyed key }
     ensures { result ≡ trail_of key }
 {
-    key.word as u64
-        + key.attribute as u64
-        + TRAIL_STEP * (key.attribute as u64 + 256 * (key.node as u64 / BUCKETS_WIDE))
+    let attribute = u64::from(key.attribute);
+    let row = u64::from(key.node) / BUCKETS_WIDE;
+    u64::from(key.word) + attribute + TRAIL_STEP * (attribute + 256 * row)
 }
 
 // Whether entry i has a key.
+#[tactic(auto, unfolding(crate::specs::Keys::same_key))]
 fn has_key(store: &[u8], i: usize, key: Key) -> bool
     requires { entry_width * i + entry_width ≤ length store.now }
     ensures { result ≡ same_key (key_at store.now i) key }
 {
-    let e = entry_at(store, i);
-    if e.node != key.node {
-        return false;
-    }
-    if e.attribute != key.attribute {
-        return false;
-    }
-    e.parameter == key.word
+    Key::from(entry_at(store, i)) == key
 }
 
 // The first cell of entry j.
@@ -165,100 +160,72 @@ pub fn cell_below(j: usize, rest: u64) -> usize
     first_cell(j) + (rest % BASE) as usize
 }
 
-// What stands at a cell of the index.
+// What is seen at a cell of the index by one who looks for a key.
 fn look(store: &[u8], index: &[u16], cell: usize, key: Key) -> Seen
     requires { (cell < length index.now) × (entry_width * get_or index.now cell 0 ≤ length store.now) }
     ensures { result ≡ seen_in (key_at store.now) key (get_or index.now cell 0) }
 {
-    let i = values::cell_at(index, cell);
-    if i == 0 {
-        return Seen::Empty;
-    }
-    let j = i - 1;
-    if has_key(store, j, key) {
-        Seen::Has(j)
-    } else {
-        Seen::Other(j)
+    match values::cell_at(index, cell) {
+        0 => Seen::Empty,
+        i if has_key(store, i - 1, key) => Seen::Has(i - 1),
+        i => Seen::Other(i - 1),
     }
 }
 
-// The entry with a key, below the first of its bucket, which has another. The loop sees 16 entries at most, one for each digit of the trail.
-fn find_below(store: &[u8], kept: usize, index: &[u16], key: Key, first: usize) -> Found
-    requires linked { Linked store.now kept index.now × Keyed key }
-    requires other { seen_in (key_at store.now) key (get_or index.now (bucket_of key) 0) ≡ Other first }
-    ensures found { found_of result ≡ find_key store.now kept key }
-    ensures free_in { FreeIn index.now key result }
+// What is seen there by one who looks for a key that no entry has.
+fn other(index: &[u16], cell: usize) -> Seen
+    requires { cell < length index.now }
+    ensures { result ≡ other_in (get_or index.now cell 0) }
 {
-    let whole = trail(key);
-    let mut cell = cell_below(first, whole);
-    let mut rest = whole / BASE;
-    let mut passed = 1;
-    while passed <= KEY_DIGITS {
-        match look(store, index, cell, key) {
-            Seen::Empty => {
-                return Found::Nothing(cell);
-            }
-            Seen::Has(j) => {
-                return Found::At(j);
-            }
-            Seen::Other(j) => {
-                cell = cell_below(j, rest);
-                rest = rest / BASE;
-                passed += 1;
-            }
-        }
+    match values::cell_at(index, cell) {
+        0 => Seen::Empty,
+        i => Seen::Other(i - 1),
     }
-    // An entry that has the bucket and every digit of the key has the key, so this is never reached.
-    Found::Nothing(cell)
 }
 
-// The entry with a key among the first `kept`. Most walks end at the first entry of the bucket, for which no trail is worked out.
-pub fn find(store: &[u8], kept: usize, index: &[u16], key: Key) -> Found
-    requires { Linked store.now kept index.now × Keyed key }
-    ensures found { found_of result ≡ find_key store.now kept key }
-    ensures free_in { FreeIn index.now key result }
+// The walk of a key through the cells of an index, of which `look` tells what is seen: to the entry with the key, or to the free cell where one
+// would stand. Most walks end in the bucket, for which no trail is worked out. Below it the walk sees 16 entries at most, one for each digit
+// of the trail.
+#[inline]
+pub fn search<F: Fn(usize) -> Seen>(key: Key, look: F) -> Result<usize, usize>
+    requires { Cells key (F.pre look) (F.post look) }
+    ensures { (c : Cells key (F.pre look) (F.post look)) → Searched c.keys c.count c.index key result }
 {
     let b = bucket(key);
-    match look(store, index, b, key) {
-        Seen::Empty => Found::Nothing(b),
-        Seen::Has(j) => Found::At(j),
-        Seen::Other(j) => find_below(store, kept, index, key, j),
-    }
-}
-
-// The free cell for a key below the first entry of its bucket. The loop passes 16 entries at most, as in `find_below`.
-fn free_below(index: &[u16], key: Key, first: usize) -> usize
-    requires { Without index.now key × (get_or index.now (bucket_of key) 0 ≡ first + 1) }
-    ensures { Free index.now key result }
-{
-    let whole = trail(key);
-    let mut cell = cell_below(first, whole);
-    let mut rest = whole / BASE;
-    let mut passed = 1;
-    while passed <= KEY_DIGITS {
-        let i = values::cell_at(index, cell);
-        if i == 0 {
-            return cell;
+    let mut above = match look(b) {
+        Seen::Empty => return Err(b),
+        Seen::Has(j) => return Ok(j),
+        Seen::Other(j) => j,
+    };
+    let mut rest = trail(key);
+    for _ in 0..KEY_DIGITS {
+        let cell = cell_below(above, rest);
+        rest /= BASE;
+        match look(cell) {
+            Seen::Empty => return Err(cell),
+            Seen::Has(j) => return Ok(j),
+            Seen::Other(j) => above = j,
         }
-        cell = cell_below(i - 1, rest);
-        rest = rest / BASE;
-        passed += 1;
     }
-    // As in `find_below`, this is never reached.
-    cell
+    // An entry that has the bucket and every digit of the key has the key.
+    unreachable!()
 }
 
-// The free cell for a key that no entry has. No entry is looked at.
+// The entry with a key among the first `kept`, or the free cell for one.
+pub fn find(store: &[u8], kept: usize, index: &[u16], key: Key) -> Result<usize, usize>
+    requires { Linked store.now kept index.now }
+    ensures found { result_ok result ≡ find_key store.now kept key }
+    ensures free_in { FreeIn index.now key result }
+{
+    search(key, |cell| look(store, index, cell, key))
+}
+
+// The free cell for a key that no entry has: each entry on the way is another's, and none is looked at.
 pub fn free_cell(index: &[u16], key: Key) -> usize
     requires { Without index.now key }
     ensures { Free index.now key result }
 {
-    let b = bucket(key);
-    let i = values::cell_at(index, b);
-    if i == 0 {
-        return b;
-    }
-    free_below(index, key, i - 1)
+    search(key, |cell| other(index, cell)).unwrap_err()
 }
 
 // Entry `kept` is put into a free cell of the index, and its own cells are emptied.
@@ -272,83 +239,68 @@ fn plant(index: &mut [u16], cell: usize, kept: usize)
 
 // Whether entry i is one of the sheet's, leaving aside whether its occurrence was kept before: declared node and attribute, the code of the
 // attribute's result type, and a parameter and a value of their types.
-fn is_entry(types: &[u8], attributes: usize, nodes: usize, store: &[u8], i: usize) -> bool
-    requires { (3 * attributes ≤ length types.now) × (entry_width * i + entry_width ≤ length store.now) }
-    ensures { (s : Sheet) → s.attributes ≡ attributes_in types.now attributes → node_count s ≡ nodes
+fn is_entry(declared: Declared, store: &[u8], i: usize) -> bool
+    requires { entry_width * i + entry_width ≤ length store.now }
+    ensures { (s : Sheet) → s.attributes ≡ attributes_in declared.entry.sheet.now declared.entry.attributes → node_count s ≡ declared.entry.nodes
         → result ≡ is_entry s [] (take entry_width (drop (entry_width * i) store.now)) }
 {
     let e = entry_at(store, i);
-    let a = e.attribute as usize;
-    if nodes <= e.node as usize {
+    let a = usize::from(e.attribute);
+    if declared.nodes <= usize::from(e.node) || declared.attributes <= a {
         return false;
     }
-    if attributes <= a {
-        return false;
-    }
-    let result = values::result_at(types, a);
-    let parameter = values::parameter_at(types, a);
-    let code = values::base_code(result);
+    let result = declared.result_at(a);
+    let parameter = declared.parameter_at(a);
+    let code = values::base_of(result) as u8;
     if e.code != code {
         return false;
     }
-    if !values::is_word(nodes, parameter, e.parameter) {
-        return false;
-    }
-    values::is_word(nodes, result, e.value)
+    values::is_word(declared.nodes, parameter, e.parameter)
+        && values::is_word(declared.nodes, result, e.value)
 }
 
-// The test of entry i, the ones before it being in the index.
-fn test(
-    types: &[u8],
-    attributes: usize,
-    nodes: usize,
-    store: &[u8],
-    i: usize,
-    index: &[u16],
-) -> Trial
-    requires { (3 * attributes ≤ length types.now) × (entry_width * i + entry_width ≤ length store.now) × Linked store.now i index.now }
-    ensures { EntryTested types.now attributes nodes store.now i index.now result }
+// The free cell for entry i, if it passes after the ones before it, which are in the index.
+fn test(declared: Declared, store: &[u8], i: usize, index: &[u16]) -> Option<usize>
+    requires { (entry_width * i + entry_width ≤ length store.now) × Linked store.now i index.now }
+    ensures { EntryTested declared.entry.sheet.now declared.entry.attributes declared.entry.nodes store.now i index.now result }
 {
-    if !is_entry(types, attributes, nodes, store, i) {
-        return Trial::Fails;
+    if !is_entry(declared, store, i) {
+        return None;
     }
-    match find(store, i, index, key_in(entry_at(store, i))) {
-        Found::At(_) => Trial::Fails,
-        Found::Nothing(cell) => Trial::Passes(cell),
-    }
+    find(store, i, index, Key::from(entry_at(store, i))).err()
+}
+
+// Whether a store has whole entries, no more bytes than it may, and room for the kept entries.
+#[tactic(auto, unfolding(crate::specs::Keys::is_shaped))]
+fn is_shaped(store: &[u8], kept: usize) -> bool
+    ensures { result ≡ is_shaped store.now kept }
+{
+    store.len() % ENTRY_WIDTH == 0
+        && store.len() <= STORE_LIMIT
+        && kept <= store.len() / ENTRY_WIDTH
 }
 
 // Stops 9 and 10. The index of a store that passes has all its kept entries.
 pub fn check(
-    types: &[u8],
-    attributes: usize,
-    nodes: usize,
+    declared: Declared,
     store: &[u8],
     kept: usize,
     index: &mut [u16],
-) -> StoreCheck
-    requires { (3 * attributes ≤ length types.now) × (length index.old ≡ links_size) }
-    ensures { StoreChecked types.now attributes nodes store.now kept index.new result }
+) -> Result<(), Refusal>
+    requires { length index.old ≡ links_size }
+    ensures { StoreChecked declared.entry.sheet.now declared.entry.attributes declared.entry.nodes store.now kept index.new result }
 {
-    if store.len() % ENTRY_WIDTH != 0 {
-        return StoreCheck::Refused(9, 0);
-    }
-    if STORE_LIMIT < store.len() {
-        return StoreCheck::Refused(9, 0);
-    }
-    if store.len() / ENTRY_WIDTH < kept {
-        return StoreCheck::Refused(9, 0);
+    if !is_shaped(store, kept) {
+        return Err(Stop::StoreShape.at(0));
     }
     values::clear(index, 0, BUCKETS);
-    let mut i = 0;
-    while i < kept {
-        let Trial::Passes(cell) = test(types, attributes, nodes, store, i, index) else {
-            return StoreCheck::Refused(10, i);
+    for i in 0..kept {
+        let Some(cell) = test(declared, store, i, index) else {
+            return Err(Stop::BadEntry.at(i));
         };
         plant(index, cell, i);
-        i += 1;
     }
-    StoreCheck::Accepted
+    Ok(())
 }
 
 // The four-byte form of the value of entry i.
@@ -359,23 +311,10 @@ pub fn value_word(store: &[u8], i: usize) -> u32
     entry_at(store, i).value
 }
 
-// The numbers of the entry that keeps a value for a key.
-pub fn fields_for(key: Key, value: Value) -> Fields
-    ensures { result ≡ fields_for key value }
-{
-    Fields {
-        node: key.node,
-        attribute: key.attribute,
-        code: values::type_code(value),
-        parameter: key.word,
-        value: values::word_of(value),
-    }
-}
-
 // Entry `kept` is written, and put into the index at the free cell of its key.
 pub fn append(store: &mut [u8], kept: usize, index: &mut [u16], e: Fields, cell: usize)
     requires room { (kept < entry_limit) × (entry_width * kept + entry_width ≤ length store.old) × Linked store.old kept index.old }
-    requires keyed { Keyed (key_in e) × (find_key store.old kept (key_in e) ≡ none) × Free index.old (key_in e) cell }
+    requires free { (find_key store.old kept (key_in e) ≡ none) × Free index.old (key_in e) cell }
     ensures { EntryPut store.old kept e store.new index.new }
 {
     put_entry(store, kept, e);

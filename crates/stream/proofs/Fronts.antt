@@ -65,3 +65,6 @@ module _ (b : List ℕ) (ended : Bool) where
 
     pub next-part : length b - 2 < n → {r : Next} → r ≡ next_of part ended → r ≡ next_of (front b) ended
     next-part h r = rw (front-part b two (rw e at h)) r
+
+-- what `next_item` rests on
+pub ruleset next_laws = (next-end, next_more, next-short, next-whole, next-part)

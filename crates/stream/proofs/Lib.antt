@@ -1,4 +1,3 @@
 pub mod Fronts
-pub mod Shifts
 pub mod Items
 pub mod Takes

@@ -24,11 +24,12 @@ fn part(ended: bool) -> Next
 }
 
 // What comes next, of the bytes at hand. Where it is more, a buffer of 65,537 bytes has room for it.
+#[tactic(auto, using(crate::proofs::Fronts::next_laws))]
 pub fn next_item(bytes: &[u8], ended: bool) -> Next
     ensures value { result ≡ next_of (front bytes.now) ended }
     ensures more_fits { result ≡ Next.More → length bytes.now < 65537 }
 {
-    if bytes.len() == 0 {
+    if bytes.is_empty() {
         if ended {
             return Next::End;
         }
@@ -37,7 +38,7 @@ pub fn next_item(bytes: &[u8], ended: bool) -> Next
     if bytes.len() < 2 {
         return part(ended);
     }
-    let n = values::two(bytes, 0) as usize;
+    let n = values::number_at::<2>(bytes, 0) as usize;
     if n <= bytes.len() - 2 {
         return Next::Question(n);
     }
@@ -49,14 +50,8 @@ pub fn shift(buffer: &mut [u8], from: usize, to: usize) -> usize
     requires { (from ≤ to) × (to ≤ length buffer.old) }
     ensures { (result ≡ to - from) × (take (to - from) buffer.new ≡ take (to - from) (drop from buffer.old)) }
 {
-    let n = to - from;
-    if from == 0 {
-        return n;
+    if from != 0 {
+        buffer.copy_within(from..to, 0);
     }
-    let mut i = 0;
-    while i < n {
-        buffer[i] = buffer[from + i];
-        i += 1;
-    }
-    n
+    to - from
 }

@@ -1,13 +1,17 @@
 -- What an index holds when a run of its cells is emptied, and how the code empties them.
 use mathlib.Core.Bool.{Bool, true, false}
-use mathlib.Core.List.{List}
-use mathlib.Core.Path.{◌≡◌, refl, ◌∙◌}
-use Prim.Native.Nat.{ℕ, zero, suc, ◌+◌, ◌≤◌, ◌<◌}
+use mathlib.Core.List.{List, []}
+use mathlib.Core.Path.{◌≡◌, refl, sym, ap, ◌∙◌}
+use Prim.Native.Nat.{ℕ, zero, suc, ◌+◌, ◌-◌, ◌≤◌, ◌<◌}
 use native.Mathlib.Numerals.{add-one}
 use native.Mathlib.Omega.{arith}
 use lib.Dec.{eqb}
-use lib.ListN.{length, get_or, set, length-set}
-use lib.Seq.{get_or-set_same, get_or-set_other}
+use lib.ListN.{length, get_or, take, drop, replicate, set, length-set}
+use borrow.Rule.Slice.PartMut.{put_mid}
+use Rattle.std.proofs.lemmas.List.Edits.{paste_none, fill_from_more, length-between}
+use Rattle.std.proofs.lemmas.Slice.{put_mid-paste}
+use Rattle.std.proofs.lemmas.List.{length-replicate}
+use lib.Seq.{paste, get_or-set_same, get_or-set_other}
 use borrow.Author.Tests.{eqb-true, eqb-false}
 use Rattle.values.specs.Cells.{emptied}
 
@@ -33,20 +37,15 @@ module _ (index : List ℕ) (from : ℕ) where
   emptied-outside (suc n) c h =
       get_or-set_other (emptied index from n) (from + n) c 0 0 (λ e. h (omega arith) (omega arith)) ∙ emptied-outside n c (λ low high. h low (omega arith))
 
-  -- The code empties them one after the other.
-  pub record Emptying (count : ℕ) (index' : List ℕ) (n : ℕ) : Type 0 where
-    pub within : n ≤ count
-    pub size : length index' ≡ length index
-    pub is : index' ≡ emptied index from n
-
-  pub emptying-starts : (count : ℕ) → Emptying count index 0
+  emptied-paste : (n : ℕ) → from + n ≤ length index → emptied index from n ≡ paste index from (replicate n 0) n
   unfolding emptied
-  emptying-starts count = record { within = omega arith; size = refl; is = refl }
+  emptied-paste zero h = paste_none index from []
+  emptied-paste (suc n) h = rw (emptied-paste n (omega arith)) (fill_from_more index from n 0 (omega arith) ∙ ap (λ k. paste index from (replicate k 0) k) (add-one n))
 
-  module _ (count : ℕ) (index' : List ℕ) (n : ℕ) (at : Emptying count index' n) where
-    pub emptying-goes-on : n < count → Emptying count (set index' (from + n) 0) (n + 1)
-    unfolding emptied
-    emptying-goes-on h = record { within = omega arith; size = simp length-set at.size; is = rw (add-one, at.is) }
-
-    pub emptying-ends : count ≤ n → index' ≡ emptied index from count
-    emptying-ends h = let end : n ≡ count = omega (arith, at.within, h) in rw (← end) at.is
+  -- The code writes zeros over them.
+  pub cleared : (n : ℕ) (zeros : List ℕ) → from + n ≤ length index → zeros ≡ replicate (length (take (from + n - from) (drop from index))) 0
+      → put_mid from (from + n - from) index zeros ≡ emptied index from n
+  cleared n zeros h is =
+      let width : from + n - from ≡ n = omega arith in
+      let all : zeros ≡ replicate n 0 = is ∙ ap (λ k. replicate k 0) (length-between index from (from + n) h ∙ width) in
+      put_mid-paste from (from + n - from) index zeros (replicate n 0) n all (sym width) (sym (length-replicate n 0)) ∙ sym (emptied-paste n h)

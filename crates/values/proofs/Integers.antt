@@ -8,32 +8,22 @@ use lib.Dec.{eqb}
 use lib.IntN.{ℤ, pos, negsuc}
 use lib.Signed.{mag, lt_z}
 use mir.Syntax.{Width, w32}
-use mir.Val.{SFits, hbits, of_z, to_z}
+use mir.Val.{SFits, of_z, to_z}
 use mir.Facts.{to_z-of_z}
 use borrow.Author.Tests.{eqb-true, eqb-false, eq-eqb, ne_eqb}
-use Rattle.saiga.specs.Values.{exact, equal_z}
-use Rattle.saiga.specs.declared.Sum.TheVariants.{Fits}
-use Rattle.saiga.proofs.FourBytes.{exact-mag}
-
--- A number that fits is read back from its bits.
-pub read_back : (w : Width) (z : ℤ) → mag z < 2 ^ hbits w → to_z w (of_z w z) ≡ z
-read_back w z h = to_z-of_z (record { sfits = h })
+use Rattle.saiga.specs.Values.{equal_z}
 
 -- The code's test of the bits of z.
 pub negative : (w : Width) (z : ℤ) → SFits w z → lt_z (to_z w (of_z w z)) (pos 0) ≡ true → lt_z z (pos 0) ≡ true
 negative w z fits below = rw (to_z-of_z fits) at below
 
--- What is told to fit is an Int.
-pub told-fits : (w z : ℤ) → exact w ≡ Fits z → SFits w32 z
-told-fits w z e = record { sfits = exact-mag w z e }
-
 -- Two Ints are equal where their bits are.
-pub equal-bits : (y z : ℤ) → mag y < 2 ^ 31 → mag z < 2 ^ 31 → eqb (of_z w32 y) (of_z w32 z) ≡ equal_z y z
+pub equal_bits : (y z : ℤ) → mag y < 2 ^ 31 → mag z < 2 ^ 31 → eqb (of_z w32 y) (of_z w32 z) ≡ equal_z y z
 unfolding equal_z
-equal-bits (pos m) (pos n) p q = refl
-equal-bits (pos m) (negsuc n) p q = ne_eqb m _ (λ e. omega arith)
-equal-bits (negsuc m) (pos n) p q = ne_eqb _ n (λ e. omega arith)
-equal-bits (negsuc m) (negsuc n) p q = go (eqb m n) refl
+equal_bits (pos m) (pos n) p q = refl
+equal_bits (pos m) (negsuc n) p q = ne_eqb m _ (λ e. omega arith)
+equal_bits (negsuc m) (pos n) p q = ne_eqb _ n (λ e. omega arith)
+equal_bits (negsuc m) (negsuc n) p q = go (eqb m n) refl
   where
     go : (b : Bool) → eqb m n ≡ b → eqb (2 ^ 32 - suc m) (2 ^ 32 - suc n) ≡ b
     go true e = eq-eqb (2 ^ 32 - suc m) (2 ^ 32 - suc n) (omega (arith, eqb-true m n e))

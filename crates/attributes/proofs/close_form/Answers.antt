@@ -1,5 +1,5 @@
 -- `attributes::close_form` meets its contract: it reads the numbers of the innermost form, and CacheWrite does the rest.
-use Rattle.attributes.proofs.CacheWriteCases.{form-absent, closes}
+use Rattle.attributes.proofs.Closing.{form-absent, closes}
 use Rattle.attributes.proofs.close_form.Goals as goal
 
 pub keep_open-kept-requires-clause-absent : goal.keep_open-kept-requires-clause-absent

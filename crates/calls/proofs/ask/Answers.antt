@@ -5,19 +5,19 @@ use Rattle.calls.proofs.Preparing.{refuses, refusal-keeps, scratch-as-lent, scra
 use Rattle.calls.proofs.ask.Goals as goal
 
 pub put-requires-clause-askable : goal.put-requires-clause-askable
-put-requires-clause-askable c = checked-askable c.check.ensures c.in-Accepted.is (search rules)
+put-requires-clause-askable c = checked-askable c.check.ensures c.in_default.is (search rules)
 
-pub returns-in-Refused : goal.returns-in-Refused
-returns-in-Refused c =
-    let stops = checked_refused c.check.ensures c.in-Refused.is in
-    let (answer, zeros, left) = refuses _ _ _ c.refuse.result stops c.refuse.ensures in
+pub returns-in-Err : goal.returns-in-Err
+returns-in-Err c =
+    let stops = checked_refused c.check.ensures c.in-Err.is in
+    let (answer, zeros, left) = refuses _ _ _ c.refused.result stops c.refused.ensures in
     record {
       answer = answer;
       tally_after = c.clear.ensures ∙ zeros;
       store_after = left;
-      indexes = rw (refusal-keeps _ _ _ c.refuse.result c.refuse.ensures) c.check.ensures.scratch;
+      indexes = rw (refusal-keeps _ _ _ c.refused.result c.refused.ensures) c.check.ensures.scratch;
       run_scratch = scratch-as-lent (search rules);
     }
 
-pub returns-in-Accepted-clause-run_scratch : goal.returns-in-Accepted-clause-run_scratch
-returns-in-Accepted-clause-run_scratch c = scratch-used (checked-accepts c.check.ensures c.in-Accepted.is).1 (search rules)
+pub returns-clause-run_scratch : goal.returns-clause-run_scratch
+returns-clause-run_scratch c = scratch-used (checked-accepts c.check.ensures c.in_default.is).1 (search rules)

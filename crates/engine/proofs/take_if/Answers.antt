@@ -1,10 +1,8 @@
 -- `engine::take_if` meets its contract. The first branch is not measured where it is taken: its width is there all the same.
-use Rattle.std.proofs.Common.{◌≡◌, true, false, arith}
+use Rattle.std.proofs.Common.{◌≡◌, true, false}
 use Rattle.saiga.specs.Values.{truth}
 use Rattle.expressions.proofs.Widths.{width_of}
 use Rattle.engine.specs.Steps.{take_if}
-use Rattle.engine.proofs.HeadsRead.{skip-inside}
-use Rattle.engine.proofs.RunMemory.{goes-on-written, frame-beyond}
 use Rattle.engine.proofs.take_if.Goals as goal
 
 pub returns-then-truth-clause-passes : goal.returns-then-truth-clause-passes
@@ -15,14 +13,8 @@ returns-then-truth-clause-passes c =
     record {
       skip = w.0;
       width = w.1;
-      after = λ store. rw is (goes-on-written _ store _ _ _ (omega arith));
+      after = λ store. rw (is, c.put_frame.ensures.written, c.put_frame.ensures.forms_same);
     }
-
-pub returns-then-truth-clause-opens_same : goal.returns-then-truth-clause-opens_same
-returns-then-truth-clause-opens_same c = frame-beyond _ _ _ (omega arith)
-
-pub overflow_add-result-2 : goal.overflow_add-result-2
-overflow_add-result-2 c = omega (arith, skip-inside c.requires.pass_ready.starts c.width.ensures)
 
 pub returns-clause-passes : goal.returns-clause-passes
 unfolding take_if
@@ -30,6 +22,6 @@ returns-clause-passes c =
     let is : truth c.args.m.value ≡ false = cc in
     record {
       skip = c.width.result;
-      width = c.width.ensures;
+      width = c.width.ensures.of_first;
       after = λ store. rw is;
     }

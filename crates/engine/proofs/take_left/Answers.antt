@@ -1,12 +1,6 @@
 -- `engine::take_left` meets its contract: the word that is written holds what `pack` gives.
-use Rattle.std.proofs.Common.{arith}
-use Rattle.engine.proofs.RunMemory.{frame-written, frame-beyond}
+use Rattle.engine.proofs.RunMemory.{rewritten}
 use Rattle.engine.proofs.take_left.Goals as goal
 
 pub returns-clause-rewrites : goal.returns-clause-rewrites
-returns-clause-rewrites c = record {
-  packed = c.pack.result;
-  packs = c.pack.ensures;
-  written = λ store. rw c.on_right.ensures (frame-written store _ _ _ (omega arith));
-  beyond = frame-beyond _ _ _ (omega arith);
-}
+returns-clause-rewrites c = rewritten c.pack-packed.ensures c.word.ensures c.put_frame.ensures.written c.put_frame.ensures.forms_same c.put_frame.ensures.opens_same

@@ -1,15 +1,9 @@
 -- The laws of Questions.antt, at what `read_whole` ensures.
-use Rattle.expressions.proofs.Questions.{question-none, question-untyped, question-of-function, question-of-base}
+use Rattle.expressions.proofs.Questions.{question-none, question-typed}
 use Rattle.expressions.proofs.question_noted.Goals as goal
 
 pub returns-in_default : goal.returns-in_default
-returns-in_default c s a n = search question-none
-
-pub returns-then-t-eq0 : goal.returns-then-t-eq0
-returns-then-t-eq0 c s a n = search question-untyped
-
-pub returns-then-t-gt4 : goal.returns-then-t-gt4
-returns-then-t-gt4 c s a n = search question-of-function
+returns-in_default c s a n = rw (c.at.ensures.0, c.at.ensures.1) (question-none _ _ _ _ s a n c.in_default.ensures.value)
 
 pub returns : goal.returns
-returns c s a n = search question-of-base
+returns c s a n = rw (c.ok_or.ensures.value, c.base_in.ensures) (question-typed _ _ _ _ s a n _ c.in-Some.ensures.value c.at-2.ensures.0 c.at-2.ensures.1)

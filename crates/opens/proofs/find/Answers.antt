@@ -1,14 +1,13 @@
--- `opens::find` meets its contract: by what stands in the key's bucket.
+-- `opens::find` meets its contract: what the search finds in the index is what is found among the open forms.
 use Rattle.std.proofs.Common.{rules}
-use Rattle.stores.proofs.Walks.{first-free}
-use Rattle.opens.proofs.Looks.{first-closed, first-open}
+use Rattle.opens.proofs.Looks.{open-forms, finds-open, finds-cell}
 use Rattle.opens.proofs.find.Goals as goal
 
-pub returns-in-Empty-clause-found : goal.returns-in-Empty-clause-found
-returns-in-Empty-clause-found c = search first-closed
+pub search-requires : goal.search-requires
+search-requires c = open-forms _ _ _ c.requires.0 _ _ _ (λ cell h. search rules) (λ cell seen p. search rules)
 
-pub returns-in-Empty-clause-closed_at : goal.returns-in-Empty-clause-closed_at
-returns-in-Empty-clause-closed_at c = search first-free
+pub returns-clause-found : goal.returns-clause-found
+returns-clause-found c = finds-open _ _ _ c.requires.0 _ _ _ (λ cell h. search rules) (λ cell seen p. search rules) _ c.search.ensures
 
-pub returns-in-Has-clause-found : goal.returns-in-Has-clause-found
-returns-in-Has-clause-found c = search (rules, first-open)
+pub returns-clause-closed_at : goal.returns-clause-closed_at
+returns-clause-closed_at c = finds-cell _ _ _ c.requires.0 _ _ _ (λ cell h. search rules) (λ cell seen p. search rules) _ c.search.ensures

@@ -5,5 +5,5 @@ use Rattle.report.proofs.ask.Goals as goal
 pub ask_checked-requires-clause-prepared_sheet : goal.ask_checked-requires-clause-prepared_sheet
 ask_checked-requires-clause-prepared_sheet c = (search sheet-ready, search notes-ready)
 
-pub returns-in-Refused : goal.returns-in-Refused
-returns-in-Refused c = search put_refused
+pub returns-in-Err : goal.returns-in-Err
+returns-in-Err c = search put_refused

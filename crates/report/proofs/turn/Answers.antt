@@ -1,6 +1,6 @@
--- One way for each answer of `next_item`, by the laws of Turns.antt.
+-- A question, whole or cut, by the laws of Turns.antt.
 use Rattle.std.proofs.Common.{◌+◌, ◌≤◌, arith}
-use Rattle.report.proofs.Turns.{question-ends, after-question, question-line, after-cut, cut_line, after-end, end_line, after_more, more-line}
+use Rattle.report.proofs.Turns.{question-ends, after-question, question-line, after-cut}
 use Rattle.report.proofs.turn.Goals as goal
 
 pub overflow_add-end : goal.overflow_add-end
@@ -24,18 +24,3 @@ returns-in-Question-clause-line c = search question-line
 
 pub returns-in-Cut-clause-turned : goal.returns-in-Cut-clause-turned
 returns-in-Cut-clause-turned c = search after-cut
-
-pub returns-in-Cut-clause-line : goal.returns-in-Cut-clause-line
-returns-in-Cut-clause-line c = search cut_line
-
-pub returns-in-End-clause-turned : goal.returns-in-End-clause-turned
-returns-in-End-clause-turned c = search after-end
-
-pub returns-in-End-clause-line : goal.returns-in-End-clause-line
-returns-in-End-clause-line c = search end_line
-
-pub returns-in-More-clause-turned : goal.returns-in-More-clause-turned
-returns-in-More-clause-turned c = search after_more
-
-pub returns-in-More-clause-line : goal.returns-in-More-clause-line
-returns-in-More-clause-line c = search more-line

@@ -9,8 +9,8 @@ use Rattle.runs.proofs.run.Given as goal
 
 abbrev pub invariant-loop-next : goal.invariant-loop-next
 invariant-loop-next l =
-    Round l.sheet l.index l.notes l.question l.limits.budget l.limits.pause l.fn.store l.fn.memory l.fn.tally l.fn.first l.store l.links
+    Round l.sheet.bytes.now l.sheet.index.now l.sheet.notes.now l.question l.limits.budget l.limits.pause l.fn.store l.fn.memory l.fn.tally l.fn.first l.store l.links
     l.memory l.tally l.m
 
 abbrev pub decreases-loop-next : goal.decreases-loop-next
-decreases-loop-next l = measure l.limits.budget (machine_in l.sheet l.question (memory_of l.store l.memory) l.m)
+decreases-loop-next l = measure l.limits.budget (machine_in l.sheet.bytes.now l.question (memory_of l.store l.memory) l.m)

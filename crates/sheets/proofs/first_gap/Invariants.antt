@@ -3,4 +3,4 @@ use Rattle.sheets.proofs.Gaps.{FirstOf}
 use Rattle.sheets.proofs.first_gap.Given as goal
 
 abbrev pub invariant-loop-n : goal.invariant-loop-n
-invariant-loop-n l = FirstOf l.sheet l.index l.attributes l.nodes l.n l.lowest l.node
+invariant-loop-n l = FirstOf l.sheet l.index l.attributes l.n l.limit l.gap

@@ -1,10 +1,7 @@
--- The loop's invariant: the node has the attributes passed. The measure is what is left of the attributes below the limit.
-use Rattle.std.proofs.Common.{◌-◌}
-use Rattle.sheets.proofs.Gaps.{HasBelow}
+-- The loop's invariant: the node has the attributes passed.
+use Rattle.std.proofs.Common.{◌≡◌, ℕ, ◌<◌, true}
+use Rattle.sheets.specs.Scan.{is_indexed}
 use Rattle.sheets.proofs.lowest_lacked.Given as goal
 
 abbrev pub invariant-loop-a : goal.invariant-loop-a
-invariant-loop-a l = HasBelow l.sheet l.index l.attributes l.limit l.n l.k l.a
-
-abbrev pub decreases-loop-a : goal.decreases-loop-a
-decreases-loop-a l = l.limit - l.a
+invariant-loop-a l = (b : ℕ) → b < l.a → is_indexed l.sheet l.index l.attributes l.n b ≡ true

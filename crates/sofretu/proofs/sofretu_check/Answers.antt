@@ -1,21 +1,11 @@
 -- The number and the place of the chain of checks are handed on as they are.
-use Rattle.std.proofs.Common.{sym, ap, ◌∙◌}
-use Rattle.calls.proofs.CheckLaws.{verdict-refused, verdict-accepted}
+use Rattle.std.proofs.Common.{ap, ◌∙◌}
 use Rattle.sofretu.specs.Check.{number_of, place_of}
+use Rattle.sofretu.proofs.CallNumbers.{number-says, place-says}
 use Rattle.sofretu.proofs.sofretu_check.Goals as goal
 
-pub returns-in-Refused-clause-value : goal.returns-in-Refused-clause-value
-unfolding number_of
-returns-in-Refused-clause-value c = sym (ap number_of (verdict-refused _ (sym c.check.ensures.answer ∙ c.in-Refused.is)))
+pub returns-clause-value : goal.returns-clause-value
+returns-clause-value c = c.told-number.ensures.number ∙ ap number_of c.check-verdict.ensures.answer ∙ number-says _ _
 
-pub returns-in-Refused-clause-place_after : goal.returns-in-Refused-clause-place_after
-unfolding place_of
-returns-in-Refused-clause-place_after c = sym (ap place_of (verdict-refused _ (sym c.check.ensures.answer ∙ c.in-Refused.is)))
-
-pub returns-in-Accepted-clause-value : goal.returns-in-Accepted-clause-value
-unfolding number_of
-returns-in-Accepted-clause-value c = sym (ap number_of (verdict-accepted _ (sym c.check.ensures.answer ∙ c.in-Accepted.is)).1)
-
-pub returns-in-Accepted-clause-place_after : goal.returns-in-Accepted-clause-place_after
-unfolding place_of
-returns-in-Accepted-clause-place_after c = sym (ap place_of (verdict-accepted _ (sym c.check.ensures.answer ∙ c.in-Accepted.is)).1)
+pub returns-clause-place_after : goal.returns-clause-place_after
+returns-clause-place_after c = c.told-number.ensures.place ∙ ap place_of c.check-verdict.ensures.answer ∙ place-says _ _

@@ -1,16 +1,10 @@
--- `stores::check` meets its contract: by its three tests, and by the test of each entry.
+-- `stores::check` meets its contract: by the test of its shape, and by the test of each entry.
 use Rattle.std.proofs.Common.{rules}
-use Rattle.stores.proofs.Checks.{part_left, too_long, too_many, check-starts, check-goes-on, check-cell, check-refuses, check-accepts}
+use Rattle.stores.proofs.Checks.{shape-refused, check-starts, check-goes-on, check-cell, check-refuses, check-accepts}
 use Rattle.stores.proofs.check.Goals as goal
 
-pub returns-then-store-ne0 : goal.returns-then-store-ne0
-returns-then-store-ne0 c = search part_left
-
-pub returns-then-store-gt-STORE_LIMIT : goal.returns-then-store-gt-STORE_LIMIT
-returns-then-store-gt-STORE_LIMIT c = search too_long
-
-pub returns-then-store-kept : goal.returns-then-store-kept
-returns-then-store-kept c = search too_many
+pub returns-then-not-is_shaped : goal.returns-then-not-is_shaped
+returns-then-not-is_shaped c = search shape-refused
 
 pub loop-i-init : goal.loop-i-init
 loop-i-init c = search check-starts

@@ -2,11 +2,11 @@
 use Rattle.stores.proofs.Walks.{looks-empty, looks-has, looks-other}
 use Rattle.stores.proofs.look.Goals as goal
 
-pub returns-then-i-eq0 : goal.returns-then-i-eq0
-returns-then-i-eq0 c = search looks-empty
+pub returns-in-0 : goal.returns-in-0
+returns-in-0 c = search looks-empty
 
-pub returns-then-has_key : goal.returns-then-has_key
-returns-then-has_key c = search looks-has
+pub returns-in_default : goal.returns-in_default
+returns-in_default c = search looks-has
 
-pub returns-else-has_key : goal.returns-else-has_key
-returns-else-has_key c = search looks-other
+pub returns-in_default-2 : goal.returns-in_default-2
+returns-in_default-2 c = search looks-other

@@ -1,15 +1,35 @@
--- `checks::check` meets its contract: the refusals of the sheet, or what follows (CheckLaws.antt).
+-- `checks::check` meets its contract: the first check that refuses, or none (CheckLaws.antt).
 use Rattle.std.proofs.Common.{rules}
-use Rattle.calls.proofs.CheckLaws.{attributes-fit, attributes-few, nodes-few, sheet-prepared, sheet-stops, sheet-passes}
+use Rattle.std.proofs.lemmas.Result.{err_from_is_err_and}
+use Rattle.calls.proofs.CheckLaws.{sheet-prepared, attributes-fit, sheet-stops, store-stops, question-stops, question-passes}
 use Rattle.calls.proofs.checks.check.Goals as goal
 
-pub check_from_store-requires : goal.check_from_store-requires
-check_from_store-requires c =
-    let p = sheet-prepared c.check.ensures.checks c.in-Accepted.is in
-    (attributes-fit p, attributes-few p, nodes-few p, search rules)
+pub returns-in_err-counts : goal.returns-in_err-counts
+returns-in_err-counts c =
+    let sheet = c.check.ensures in
+    let p = err_from_is_err_and c.from_residual.result c.from_residual.ensures.1 in
+    rw (p.1, p.2) (sheet-stops sheet.checks _ _ sheet.notes_len sheet.checks_notes c.in_err-counts.was (search rules))
 
-pub returns-in-Refused : goal.returns-in-Refused
-returns-in-Refused c = search sheet-stops
+pub invariant_of-declared : goal.invariant_of-declared
+invariant_of-declared c = record { within = attributes-fit (sheet-prepared c.check.ensures.checks c.in_ok-counts.was) }
 
-pub returns-in-Accepted : goal.returns-in-Accepted
-returns-in-Accepted c = search sheet-passes
+pub returns-in_err-check : goal.returns-in_err-check
+returns-in_err-check c =
+    let sheet = c.check.ensures in
+    let prepared = sheet-prepared sheet.checks c.in_ok-counts.was in
+    let p = err_from_is_err_and c.from_residual-in_err-check.result c.from_residual-in_err-check.ensures.1 in
+    rw (p.1, p.2) (store-stops sheet.checks _ _ sheet.notes_len sheet.checks_notes prepared c.check-2.ensures c.in_err-check.was)
+
+pub returns-in_err-check_question : goal.returns-in_err-check_question
+returns-in_err-check_question c =
+    let sheet = c.check.ensures in
+    let prepared = sheet-prepared sheet.checks c.in_ok-counts.was in
+    let p = err_from_is_err_and c.from_residual-in_err-check_question.result c.from_residual-in_err-check_question.ensures.1 in
+    rw (p.1, p.2)
+    (question-stops sheet.checks _ _ sheet.notes_len sheet.checks_notes prepared c.check-2.ensures c.in_ok-check.was c.check_question.ensures c.in_err-check_question.was)
+
+pub returns : goal.returns
+returns c =
+    let sheet = c.check.ensures in
+    let prepared = sheet-prepared sheet.checks c.in_ok-counts.was in
+    question-passes sheet.checks _ _ sheet.notes_len sheet.checks_notes prepared c.check-2.ensures c.in_ok-check.was c.check_question.ensures c.in_ok-check_question.was

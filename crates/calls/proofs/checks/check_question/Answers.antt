@@ -5,7 +5,7 @@ use Rattle.calls.proofs.CheckLaws.{budget-refused, budget-permits}
 use Rattle.calls.proofs.checks.check_question.Goals as goal
 
 pub returns-then-budget-gt-BUDGET_LIMIT : goal.returns-then-budget-gt-BUDGET_LIMIT
-returns-then-budget-gt-BUDGET_LIMIT c s of = search (arith, budget-refused)
+returns-then-budget-gt-BUDGET_LIMIT c s of = rw (c.at.ensures.0, c.at.ensures.1) (search (arith, budget-refused))
 
 pub returns : goal.returns
 returns c s of =
