@@ -7,6 +7,7 @@ use lib.ListN.{length, replicate}
 use Rattle.saiga.specs.Limits.{tally_rows}
 use Rattle.saiga.specs.declared.Value.TheVariants.{Unit as unit}
 use Rattle.saiga.specs.declared.stops.Stop.{Stop}
+use Rattle.saiga.specs.Stops.{stop_number}
 use Rattle.saiga.specs.Caching.{Counted, Ending, Ended}
 use Rattle.saiga.specs.Tally.{tally}
 use Rattle.saiga.specs.Ask.{lent, asking, ended_answer, run_question, trace_question, ask}
@@ -105,11 +106,11 @@ module _ {sheet index notes question store links memory : List ℕ} {kept budget
           let final = rw end at (ran store kept whole begins-at) in
           ended (Value r.registers.value r.registers.steps r.registers.kept) final (rw (final.ending_is, final.steps_are, final.kept_are)) (rw end at tallied) linked
 
-      pub stopped : {s : Stop} → r.halt ≡ halt.Stops s → Brings (Refused s 0 r.registers.steps r.registers.kept)
+      pub stopped : {s : Stop} → r.halt ≡ halt.Stops s → {number : ℕ} → number ≡ stop_number s → Brings (Refused number 0 r.registers.steps r.registers.kept)
       unfolding answer_of ended_answer
-      stopped {s} end =
+      stopped end {number} number_is =
           let (reason, is_number, final) = rw end at (ran store kept whole begins-at) in
-          ended (Refused s 0 r.registers.steps r.registers.kept) final (rw (final.ending_is, is_number, final.steps_are, final.kept_are)) (rw end at tallied) linked
+          ended (Refused number 0 r.registers.steps r.registers.kept) final (rw (number_is, final.ending_is, is_number, final.steps_are, final.kept_are)) (rw end at tallied) linked
 
       -- A run whose limit is its budget does not pause: it is spent there, or it ends.
       pub paused : r.halt ≡ halt.Waits → ⊥

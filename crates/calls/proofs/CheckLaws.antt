@@ -1,9 +1,11 @@
 -- What the checks of a call answer, from what the check of each part ensures.
+use mathlib.Core.Bool.{Bool, true, false, cond}
 use mathlib.Core.List.{List}
 use mathlib.Core.Path.{◌≡◌, refl, sym, ap, ◌∙◌}
 use Prim.Native.Nat.{ℕ, ◌*◌, ◌≤◌, ◌<◌}
 use native.Mathlib.Omega.{arith}
 use borrow.Author.Tests.{le-leb, lt-leb}
+use lib.Dec.{leb}
 use lib.ListN.{length, get_or}
 use Rattle.std.specs.Prelude.{Result, Ok, Err}
 use Rattle.saiga.specs.Limits.{sheet_limit, budget_limit}
@@ -62,6 +64,15 @@ budget-refused s c h = rw (lt-leb c.budget budget_limit h)
 pub budget-permits : (s : Sheet) (c : Call) → c.budget ≤ budget_limit → from_budget s c ≡ check_question s c.question
 unfolding check_budget ◌then_check◌
 budget-permits s c h = rw (le-leb c.budget budget_limit h)
+
+-- A budget that is refused has place 0.
+pub budget-place : (budget : ℕ) {number place : ℕ} → check_budget budget ≡ refused number at_place place → place ≡ 0
+unfolding check_budget
+budget-place budget {number} {place} = go (leb budget budget_limit)
+  where
+    go : (b : Bool) → ◌≡◌ {A = Checked (Unit {0})} (cond b (accepted tt) (refused 11 at_place 0)) (refused number at_place place) → place ≡ 0
+    go true e = cc
+    go false e = cc
 
 -- what the check of a question answers, for every sheet that declares so much
 abbrev pub QuestionChecked : List ℕ → ℕ → ℕ → Call → Result Base Refusal → Type 0

@@ -7,7 +7,7 @@ pub mod checks;
 ghost use Rattle.std.specs.Prelude.{[], ◌≡◌, replicate};
 ghost use Rattle.saiga.specs.Limits.{tally_rows};
 ghost use Rattle.saiga.specs.declared.Value.TheVariants.{Unit as unit};
-ghost use Rattle.saiga.specs.Ask.{lent, asking, refusal as refused, check_call, ask as called};
+ghost use Rattle.saiga.specs.Ask.{lent, asking, refusal, refusal as refused, check_call, ask as called};
 ghost use Rattle.saiga.specs.Stops.{stop_number};
 ghost use Rattle.stores.specs.Keys.{Linked};
 ghost use Rattle.calls.specs.Answers.{answer_of};
@@ -19,13 +19,14 @@ ghost use Rattle.calls.specs.Askable.{Askable, RunScratch};
 use engine::{Halt, Limits, RUN_SIZE, Registers};
 use saiga::Value;
 use saiga::limits::{SHEET_LIMIT, TALLY_ROWS};
-use saiga::stops::{Refusal, Stop};
+use saiga::stops::Refusal;
 use sheets::IndexedSheet;
 use sheets::lookup::{INDEX_SIZE, attribute_count, node_count};
 use stores::LINKS_SIZE;
 use values::Declared;
 
-// What a call brings: the value, or the stop that refuses it with its place; with the steps and the number kept. Document 01 fixes this enum.
+// What a call brings: the value, or the number of the refusal with its place; with the steps and the number kept. Document 01 fixes this enum. A refusal
+// has its number here and not its `Stop`: an answer hands on what the definitions' answer has, and `refuse` takes any number, also one of no stop.
 #[derive(Clone, Copy)]
 pub enum Answer {
     Value {
@@ -34,24 +35,31 @@ pub enum Answer {
         kept: usize,
     },
     Refused {
-        stop: Stop,
+        number: u32,
         place: usize,
         steps: usize,
         kept: usize,
     },
 }
 
+// The answer of a call that is refused before its run: no steps, and what was kept stays.
+pub fn refuse(number: u32, place: usize, kept: usize) -> Answer
+    ensures { answer_of result ≡ (refusal (lent [] kept) number place).answer }
+{
+    Answer::Refused {
+        number,
+        place,
+        steps: 0,
+        kept,
+    }
+}
+
 impl Answer {
-    // The answer of a call that is refused before its run: no steps, and what was kept stays.
+    // The same for what a check refuses with: a stop and its place.
     pub fn refused(refusal: Refusal, kept: usize) -> Answer
         ensures { answer_of result ≡ (refused (lent [] kept) (stop_number refusal.stop) refusal.place).answer }
     {
-        Answer::Refused {
-            stop: refusal.stop,
-            place: refusal.place,
-            steps: 0,
-            kept,
-        }
+        refuse(refusal.stop.number(), refusal.place, kept)
     }
 }
 
@@ -112,7 +120,7 @@ fn put(
     match end.halt {
         Halt::Finishes => Answer::Value { value, steps, kept },
         Halt::Stops(stop) => Answer::Refused {
-            stop,
+            number: stop.number(),
             place: 0,
             steps,
             kept,

@@ -3,12 +3,12 @@ use mathlib.Core.Bool.{false}
 use mathlib.Core.List.{List, [], ◌∷◌}
 use mathlib.Core.Path.{◌≡◌, refl, ap, ◌∙◌}
 use Prim.Native.Nat.{ℕ, zero, suc, ◌+◌, ◌-◌, ◌≤◌, ◌<◌}
-use native.Mathlib.Nat.{zero-sub, sub-zero, suc-sub-suc}
+use native.Mathlib.Nat.{add-zero, zero-sub, sub-zero, suc-sub-suc}
 use native.Mathlib.Numerals.{add-one, one-add}
 use native.Mathlib.Omega.{arith}
 use lib.Dec.{eqb}
 use lib.ListN.{length, take, drop, get_or, set, length-take, length-drop}
-use lib.Seq.{take-nil, drop-drop, get_or-set_same, get_or-set_other}
+use lib.Seq.{take-nil, drop-drop, get_or-drop, get_or-set_same, get_or-set_other}
 use Rattle.saiga.specs.declared.Value.{Value}
 use Rattle.saiga.proofs.Preservation.{either}
 use Rattle.engine.specs.RunningPiece.{piece_in, rest_of}
@@ -142,6 +142,12 @@ module _ (sheet question forms : List ℕ) where
 
 -- ---- The rest of the running piece
 
+-- what a list's front begins with, the list begins with
+take-first : (n : ℕ) (l : List ℕ) {c : ℕ} {r : List ℕ} → take n l ≡ c ∷ r → get_or l 0 0 ≡ c
+take-first zero l e = cc
+take-first (suc n) [] e = cc
+take-first (suc n) (x ∷ l) e = cc
+
 drop-take : (w n : ℕ) (l : List ℕ) → drop w (take n l) ≡ take (n - w) (drop w l)
 drop-take zero n l = rw sub-zero
 drop-take (suc w) zero l = rw zero-sub
@@ -177,6 +183,11 @@ module _ (sheet question : List ℕ) (k at end : ℕ) where
     -- it reaches to the end
     pub rest-inside : end ≤ length (piece_in sheet question k) → at + suc (length l) ≡ end
     rest-inside h = omega (arith, rest-length h, ap length e)
+
+    -- its first byte is the piece's at the place reached
+    pub rest-first : get_or (piece_in sheet question k) at 0 ≡ c
+    unfolding rest_of
+    rest-first = rw (get_or-drop, add-zero) at (take-first (end - at) (drop at (piece_in sheet question k)) e)
 
     -- what stands behind it
     pub rest-behind : (w : ℕ) → rest (at + (1 + w)) ≡ drop w l

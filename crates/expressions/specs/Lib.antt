@@ -1,4 +1,5 @@
 pub mod Forms
 pub mod Noted
+pub mod TypeNumbers
 pub mod Types
 pub mod Widths

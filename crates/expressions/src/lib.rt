@@ -4,6 +4,7 @@
 // expression's width less one (specs/Noted.antt).
 #![tactic(auto)]
 
+pub mod numbers;
 pub mod types;
 
 ghost use Rattle.std.specs.Prelude.{◌≡◌, List, ℕ, ◌+◌, ◌*◌, ◌/◌, ◌%◌, ◌≤◌, ◌<◌, false, IfSome, length, drop, Some as some};

@@ -1,11 +1,14 @@
--- Numbers in decimal: by their last digit, and as the kit prints them.
-use mathlib.Core.Bool.{Bool, true, false}
+-- Numbers in decimal: by their last digit, how many digits they have, and as the kit prints them.
+use mathlib.Core.Bool.{Bool, true, false, true≢false}
 use mathlib.Core.List.{List, [], ◌∷◌, ◌++◌}
 use mathlib.Core.Path.{◌≡◌, refl, sym, ap}
 use Prim.Native.Nat.{ℕ, zero, suc, ◌+◌, ◌/◌, ◌%◌, ◌^◌, ◌≤◌, ◌<◌}
+use native.Mathlib.Nat.{pow-suc}
 use native.Mathlib.Omega.{arith}
 use lib.Dec.{ltb}
-use lib.IntN.{ℤ, pos, negsuc}
+use lib.IntN.{ℤ, pos, negsuc, nat_abs}
+use lib.ListN.{length, length-append}
+use lib.Signed.{lt_z}
 use borrow.Author.Tests.{ltb-true, ltb-false, lt-ltb, le-ltb}
 use mir.Syntax.{w64}
 use mir.Val.{SFits, of_z, to_z}
@@ -46,6 +49,23 @@ by_digits P digit more n = below (suc n) n (omega arith)
         go : (t : Bool) → ltb m 10 ≡ t → (m / 10 < k → P (m / 10)) → P m
         go true e shorter = digit m (ltb-true m 10 e)
         go false e shorter = let l = ltb-false m 10 e in more m l (shorter (omega arith))
+
+-- A number below 10 ^ k has at most k digits.
+pub decimal-length : (k n : ℕ) → n < 10 ^ suc k → length (decimal n) ≤ suc k
+decimal-length zero n h = rw (decimal_digit n h) (omega arith)
+decimal-length (suc k) n h = go (ltb n 10) refl (decimal-length k (n / 10))
+  where
+    go : (t : Bool) → ltb n 10 ≡ t → (n / 10 < 10 ^ suc k → length (decimal (n / 10)) ≤ suc k) → length (decimal n) ≤ suc (suc k)
+    go true e shorter = rw (decimal_digit n (ltb-true n 10 e)) (omega arith)
+    go false e shorter =
+        let s = shorter (omega (arith, pow-suc 10 (suc k))) in
+        rw (decimal-more n (ltb-false n 10 e), length-append) (omega arith)
+
+-- a number that is not negative has no sign
+pub other_decimal : (z : ℤ) → lt_z z (pos 0) ≡ false → signed_decimal z ≡ decimal (nat_abs z)
+unfolding signed_decimal
+other_decimal (pos n) t = refl
+other_decimal (negsuc n) t = absurd (true≢false t)
 
 -- ---- Numbers as the kit prints them
 

@@ -41,6 +41,23 @@ impl Line {
         &self.bytes[..self.len]
     }
 
+    // A line is used again: what it had is no part of it any more.
+    pub fn clear(&mut self)
+        ensures { self.new ≡ [] }
+    {
+        self.len = 0;
+    }
+
+    // A byte is written at the end.
+    pub fn byte(&mut self, byte: u8)
+        requires { length self.old + 1 ≤ 128 }
+        ensures { self.new ≡ self.old ++ (byte ∷ []) }
+    {
+        let at = self.len;
+        self.bytes[at] = byte;
+        self.len = at + 1;
+    }
+
     // Text is written at the end.
     pub fn text(&mut self, words: &[u8])
         requires { length self.old + length words.now ≤ 128 }
@@ -51,9 +68,10 @@ impl Line {
         self.len = end;
     }
 
-    // A number in decimal is written at the end.
+    // A number of more than one digit, at the end. It has a frame of its own for the buffer, which the others do without.
+    #[inline(never)]
     #[tactic(auto, using(crate::proofs::Decimals::decimal_printed))]
-    pub fn number(&mut self, n: u64)
+    fn long_number(&mut self, n: u64)
         requires { length self.old + 20 ≤ 128 }
         ensures written { self.new ≡ self.old ++ decimal n }
         ensures fits { length self.new ≤ length self.old + 20 }
@@ -61,13 +79,32 @@ impl Line {
         self.text(Buffer::new().format(n).as_bytes());
     }
 
-    #[tactic(auto, using(crate::proofs::Decimals::signed_printed))]
+    // A number in decimal is written at the end. Most numbers of a line are one digit, for which a buffer is too dear.
+    #[inline(always)]
+    #[tactic(auto, using(crate::proofs::Decimals::decimal_digit))]
+    pub fn number(&mut self, n: u64)
+        requires { length self.old + 20 ≤ 128 }
+        ensures written { self.new ≡ self.old ++ decimal n }
+        ensures fits { length self.new ≤ length self.old + 20 }
+    {
+        if n < 10 {
+            self.byte(b'0' + n as u8);
+        } else {
+            self.long_number(n);
+        }
+    }
+
+    #[tactic(auto, using(crate::proofs::Decimals::signed_printed, crate::proofs::Decimals::other_decimal))]
     fn signed_number(&mut self, z: i64)
         requires { length self.old + 21 ≤ 128 }
         ensures written { self.new ≡ self.old ++ signed_decimal z }
         ensures fits { length self.new ≤ length self.old + 21 }
     {
-        self.text(Buffer::new().format(z).as_bytes());
+        if z < 0 {
+            self.text(Buffer::new().format(z).as_bytes());
+        } else {
+            self.number(z.unsigned_abs());
+        }
     }
 
     // A number and the byte after it.
@@ -77,7 +114,7 @@ impl Line {
         ensures fits { length self.new ≤ length self.old + 21 }
     {
         self.number(n);
-        self.text(&[mark]);
+        self.byte(mark);
     }
 }
 
@@ -93,19 +130,29 @@ pub struct Fields {
 }
 
 impl Fields {
+    // The line takes the place of what is there.
+    #[inline(always)]
     #[tactic(auto, unfolding(crate::specs::Lines::line_of, crate::specs::Lines::fields))]
+    pub fn write(self, line: &mut Line)
+        ensures value { line.new ≡ line_of record { number = self.number; place = self.place; type = self.code; value = self.value; steps = self.steps; kept = self.kept } }
+        ensures fits { length line.new ≤ 127 }
+    {
+        line.clear();
+        line.field(self.number, b' ');
+        line.field(self.place, b' ');
+        line.field(self.code, b' ');
+        line.signed_number(self.value);
+        line.byte(b' ');
+        line.field(self.steps, b' ');
+        line.field(self.kept, b'\n');
+    }
+
     pub fn line(self) -> Line
         ensures value { result ≡ line_of record { number = self.number; place = self.place; type = self.code; value = self.value; steps = self.steps; kept = self.kept } }
         ensures fits { length result ≤ 127 }
     {
         let mut line = Line::new();
-        line.field(self.number, b' ');
-        line.field(self.place, b' ');
-        line.field(self.code, b' ');
-        line.signed_number(self.value);
-        line.text(b" ");
-        line.field(self.steps, b' ');
-        line.field(self.kept, b'\n');
+        self.write(&mut line);
         line
     }
 }

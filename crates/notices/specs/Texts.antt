@@ -1,6 +1,5 @@
 -- What each notice says on standard error.
 use Rattle.std.specs.Prelude.{cond, List, [], ◌∷◌, ◌++◌, ℕ, ◌/◌, ◌%◌, eqb, codes}
-use Rattle.saiga.specs.Stops.{stop_number}
 use Rattle.lines.specs.Lines.{decimal}
 use Rattle.notices.specs.declared.Notice.{Notice}
 use Rattle.notices.specs.declared.Notice.TheVariants.{SheetMissing, SheetUnreadable, SheetRefused, InputFailed, QuestionCut, LineUnwritten}
@@ -50,7 +49,7 @@ refusal number place = about_sheet ++ is_refused ++ decimal number ++ fault numb
 abbrev pub says : Notice → List ℕ
 says SheetMissing = about_sheet ++ is_missing ++ as_empty
 says SheetUnreadable = about_sheet ++ is_unreadable ++ as_empty
-says (SheetRefused r) = refusal (stop_number r.stop) r.place
+says (SheetRefused number place) = refusal number place
 says InputFailed = about_input
 says QuestionCut = about_question
 says LineUnwritten = about_output

@@ -2,18 +2,16 @@
 #![tactic(auto)]
 
 ghost use Rattle.std.specs.Prelude.{◌≡◌, ◌+◌, ◌≤◌, ◌++◌, length};
-ghost use Rattle.saiga.specs.Stops.{stop_number};
 ghost use Rattle.notices.specs.Texts.{fault, refusal, says};
 
 use lines::Line;
-use saiga::stops::{Refusal, Stop};
 
-// A refused sheet has its stop and its place.
+// A refused sheet has its number and its place. Any number has a line, so it is no `Stop`.
 #[derive(Clone, Copy)]
 pub enum Notice {
     SheetMissing,
     SheetUnreadable,
-    SheetRefused(Refusal),
+    SheetRefused(u32, usize),
     InputFailed,
     QuestionCut,
     LineUnwritten,
@@ -30,15 +28,15 @@ fn fixed(words: &[u8]) -> Line
 }
 
 // Where a refused sheet is at fault. Stop 1 has no place, and that of stop 8 is a node and an attribute.
-fn fault(line: &mut Line, r: Refusal)
+fn fault(line: &mut Line, number: u32, place: usize)
     requires { length line.old + 61 ≤ 128 }
-    ensures said { line.new ≡ line.old ++ fault (stop_number r.stop) r.place }
+    ensures said { line.new ≡ line.old ++ fault number place }
     ensures fits { length line.new ≤ length line.old + 61 }
 {
-    let place = r.place as u64;
-    match r.stop {
-        Stop::SheetTooLong => {}
-        Stop::Missing => {
+    let place = place as u64;
+    match number {
+        1 => {}
+        8 => {
             line.text(b" at node ");
             line.number(place / 32);
             line.text(b", attribute ");
@@ -52,14 +50,14 @@ fn fault(line: &mut Line, r: Refusal)
 }
 
 // The line of a refused sheet.
-fn refused(r: Refusal) -> Line
-    ensures said { result ≡ refusal (stop_number r.stop) r.place }
+fn refused(number: u32, place: usize) -> Line
+    ensures said { result ≡ refusal number place }
     ensures fits { length result ≤ 127 }
 {
     let mut line = Line::new();
     line.text(b"report: sheet.bin is refused: stop ");
-    line.number(u64::from(r.stop.number()));
-    fault(&mut line, r);
+    line.number(u64::from(number));
+    fault(&mut line, number, place);
     line.text(b"\n");
     line
 }
@@ -76,7 +74,7 @@ impl Notice {
             Notice::SheetUnreadable => fixed(
                 b"report: sheet.bin cannot be read and counts as an empty sheet\n",
             ),
-            Notice::SheetRefused(refusal) => refused(refusal),
+            Notice::SheetRefused(number, place) => refused(number, place),
             Notice::InputFailed => fixed(
                 b"report: standard input could not be read, which counts as its end\n",
             ),

@@ -8,3 +8,4 @@ pub mod RunPrints
 pub mod CutShort
 pub mod LongSheets
 pub mod Rests
+pub mod Sizes

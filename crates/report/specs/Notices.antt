@@ -1,6 +1,7 @@
 -- Which notices are due after a run of the report program.
 use Rattle.std.specs.Prelude.{Bool, true, false, not, cond, List, [], ◌∷◌, ℕ, Option, Some, None, Result, Ok, Err}
 use Rattle.saiga.specs.declared.stops.Refusal.{Refusal}
+use Rattle.saiga.specs.Stops.{stop_number}
 use Rattle.sheets.specs.declared.Counts.{Counts}
 use Rattle.stream.specs.Stream.{Item, question, cut}
 use Rattle.stream.specs.declared.Next.{Next}
@@ -12,11 +13,16 @@ use Rattle.report.specs.declared.system.NoSheet.TheVariants.{Missing, Unreadable
 use Rattle.report.specs.declared.telling.Notices.{Notices}
 use Rattle.report.specs.Report.{View, next}
 
+-- the bytes that were read of the sheet; "one that cannot be read counts as empty"
+unfoldable pub size_of : Result ℕ NoSheet → ℕ
+size_of (Ok n) = n
+size_of (Err e) = 0
+
 -- A sheet that was read has the number and place of its check. One that was not has its own line, and none for the stop of an empty sheet.
 unfoldable pub of_sheet : Result ℕ NoSheet → Result Counts Refusal → Option Notice
 of_sheet (Err Missing) check = Some SheetMissing
 of_sheet (Err Unreadable) check = Some SheetUnreadable
-of_sheet (Ok n) (Err refusal) = Some (SheetRefused refusal)
+of_sheet (Ok n) (Err refusal) = Some (SheetRefused (stop_number refusal.stop) refusal.place)
 of_sheet (Ok n) (Ok counts) = None
 
 unfoldable pub is_cut : Next → Bool

@@ -51,20 +51,6 @@ struct State {
     going: bool,
 }
 
-// What a question leaves: the entries kept, and its line.
-#[derive(Drop)]
-struct Answered {
-    kept: usize,
-    line: Line,
-}
-
-// What a turn leaves: where the run stands, and the line of its answer. A turn that answers nothing has an empty one.
-#[derive(Drop)]
-struct Turned {
-    state: State,
-    line: Line,
-}
-
 // How a run ended: where it stood, and whether each line was written.
 #[derive(Clone, Copy)]
 struct Ending {
@@ -72,12 +58,12 @@ struct Ending {
     written: bool,
 }
 
-// The line of an answer.
+// The line of an answer takes the place of what is in `line`, which serves the whole run.
 #[tactic(auto, unfolding(calls::specs::Answers::answer_of))]
-fn line_of(answer: Answer) -> Line
-    ensures { result ≡ line_of (answer_of answer) }
+fn line_of(answer: Answer, line: &mut Line)
+    ensures { line.new ≡ line_of (answer_of answer) }
 {
-    match answer {
+    let fields = match answer {
         Answer::Value { value, steps, kept } => Fields {
             number: 0,
             place: 0,
@@ -85,23 +71,22 @@ fn line_of(answer: Answer) -> Line
             value: values::decimal(value),
             steps: steps as u64,
             kept: kept as u64,
-        }
-        .line(),
+        },
         Answer::Refused {
-            stop,
+            number,
             place,
             steps,
             kept,
         } => Fields {
-            number: u64::from(stop.number()),
+            number: u64::from(number),
             place: place as u64,
             code: 0,
             value: 0,
             steps: steps as u64,
             kept: kept as u64,
-        }
-        .line(),
-    }
+        },
+    };
+    fields.write(line);
 }
 
 #[tactic(auto, unfolding(calls::specs::Answers::answer_of))]
@@ -144,7 +129,7 @@ fn ask<'a>(
     }
 }
 
-// A question is put, and the line of its answer made.
+// A question is put, and the line of its answer made. It returns the number of entries kept.
 fn answer<'a>(
     checked: CheckedSheet<'a>,
     question: &'a [u8],
@@ -152,17 +137,16 @@ fn answer<'a>(
     kept: usize,
     links: &mut [u16],
     memory: &mut [u64; RUN_SIZE],
-) -> Answered
+    line: &mut Line,
+) -> usize
     requires { Prepared checked store.old kept links.old }
-    ensures prepared_after { Prepared checked.entry store.new result.kept links.new }
-    ensures kept_after { lent store.new result.kept ≡ after checked.entry.sheet.bytes.now (lent store.old kept) question.now }
-    ensures line { result.line ≡ line_of (called checked.entry.sheet.bytes.now (lent store.old kept) (asks question.now)).answer }
+    ensures prepared_after { Prepared checked.entry store.new result links.new }
+    ensures kept_after { lent store.new result ≡ after checked.entry.sheet.bytes.now (lent store.old kept) question.now }
+    ensures line { line.new ≡ line_of (called checked.entry.sheet.bytes.now (lent store.old kept) (asks question.now)).answer }
 {
     let brought = ask(checked, question, store, kept, links, memory);
-    Answered {
-        kept: kept_of(brought),
-        line: line_of(brought),
-    }
+    line_of(brought, line);
+    kept_of(brought)
 }
 
 // Where the bytes at hand are no whole question and the input goes on, more of it is read: they are moved to the front of the buffer, and
@@ -189,7 +173,8 @@ fn fetch(stdin: Stdin, input: &mut [u8], s: State) -> State
     }
 }
 
-// One turn, with no call of the system: the next question is answered, or what was read is taken over, or there is no more to do.
+// One turn, with no call of the system: the next question is answered, or what was read is taken over, or there is no more to do. It leaves in
+// `line` the line of its answer, or an empty one.
 #[tactic(auto, using(crate::proofs::Turns::turn_laws))]
 fn turn<'a>(
     checked: CheckedSheet<'a>,
@@ -197,62 +182,52 @@ fn turn<'a>(
     store: &mut [u8],
     links: &mut [u16],
     memory: &mut [u64; RUN_SIZE],
+    line: &mut Line,
     s: State,
-) -> Turned
+) -> State
     requires prepared { Prepared checked store.old s.kept links.old }
     requires within { Within input.now s }
-    ensures prepared_after { Prepared checked.entry store.new result.state.kept links.new }
-    ensures within_after { Within input.now result.state }
-    ensures turned { view_of input.now store.new result.state
+    ensures prepared_after { Prepared checked.entry store.new result.kept links.new }
+    ensures within_after { Within input.now result }
+    ensures turned { view_of input.now store.new result
         ≡ turned checked.entry.sheet.bytes.now (view_of input.now store.old s) (chunk_of input.now s) }
-    ensures line { result.line ≡ lines (given checked.entry.sheet.bytes.now (view_of input.now store.old s)) }
-    ensures failed_same { result.state.failed ≡ s.failed }
+    ensures line { line.new ≡ lines (given checked.entry.sheet.bytes.now (view_of input.now store.old s)) }
+    ensures failed_same { result.failed ≡ s.failed }
 {
+    line.clear();
     match stream::next_item(&input[s.from..s.to], s.ended) {
         Next::Question(n) => {
             let at = s.from + 2;
             let end = at + n;
-            let done = answer(checked, &input[at..end], store, s.kept, links, memory);
-            Turned {
-                state: State {
-                    from: end,
-                    came: 0,
-                    kept: done.kept,
-                    going: true,
-                    ..s
-                },
-                line: done.line,
+            let kept = answer(checked, &input[at..end], store, s.kept, links, memory, line);
+            State {
+                from: end,
+                came: 0,
+                kept,
+                going: true,
+                ..s
             }
         }
         Next::Cut => {
-            let done = answer(checked, &[], store, s.kept, links, memory);
-            Turned {
-                state: State {
-                    came: 0,
-                    kept: done.kept,
-                    going: false,
-                    ..s
-                },
-                line: done.line,
-            }
-        }
-        Next::End => Turned {
-            state: State {
+            let kept = answer(checked, &[], store, s.kept, links, memory, line);
+            State {
                 came: 0,
+                kept,
                 going: false,
                 ..s
-            },
-            line: Line::new(),
+            }
+        }
+        Next::End => State {
+            came: 0,
+            going: false,
+            ..s
         },
-        Next::More => Turned {
-            state: State {
-                to: s.to + s.came,
-                came: 0,
-                ended: s.came == 0,
-                going: true,
-                ..s
-            },
-            line: Line::new(),
+        Next::More => State {
+            to: s.to + s.came,
+            came: 0,
+            ended: s.came == 0,
+            going: true,
+            ..s
         },
     }
 }
@@ -284,14 +259,14 @@ fn run<'a>(
         failed: false,
         going: true,
     };
+    let mut line = Line::new();
     for _ in 0..u64::MAX {
         if !s.going {
             break;
         }
         s = fetch(stdin, input, s);
-        let turned = turn(checked, input, store, links, memory, s);
-        s = turned.state;
-        if system::write_output(stdout, turned.line.as_bytes()).is_err() {
+        s = turn(checked, input, store, links, memory, &mut line, s);
+        if system::write_output(stdout, line.as_bytes()).is_err() {
             return Ending {
                 state: s,
                 written: false,
@@ -394,11 +369,11 @@ fn answer_all(
     telling::tell_all(stderr, notices_after(file, checked.check, &input, ending));
 }
 
+#[tactic(auto, using(crate::proofs::Sizes::size_fits))]
 fn main(rt: HostRuntime) {
     let mut sheet = [0u8; SHEET_LIMIT + 1];
     let file = system::read_sheet(&rt, &mut sheet);
-    // One that cannot be read counts as empty.
-    let n = file.unwrap_or(0);
+    let n = system::size_of(file);
     let mut index = [0u16; INDEX_SIZE];
     let mut notes = [0u8; SHEET_LIMIT];
     answer_all(

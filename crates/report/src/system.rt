@@ -3,6 +3,7 @@
 // A call that a signal interrupts is made again, and so is one on a descriptor that does not wait and is not ready yet. A proved loop has to
 // end, so the tries are counted from a number that no run uses up.
 ghost use Rattle.std.specs.Prelude.{ℕ, ◌≡◌, ◌+◌, ◌-◌, ◌≤◌, ◌<◌, length, take, IfOk};
+ghost use Rattle.report.specs.Notices.{size_of};
 ghost use Rattle.report.specs.Retries.{KeepsRoom};
 
 use std::io::{Error, ErrorKind, Read, Stderr, Stdin, Stdout, Write};
@@ -80,6 +81,14 @@ pub fn read_sheet<R: Files>(files: &R, bytes: &mut [u8]) -> Result<usize, NoShee
         _ => NoSheet::Unreadable,
     })?;
     read_file(&mut file, bytes).map_err(|_| NoSheet::Unreadable)
+}
+
+// How many bytes the sheet has. One that cannot be read counts as empty.
+#[tactic(auto, unfolding(crate::specs::Notices::size_of))]
+pub fn size_of(file: Result<usize, NoSheet>) -> usize
+    ensures { result ≡ size_of file }
+{
+    file.unwrap_or(0)
 }
 
 // What standard input brings, put into the bytes from `at` on, for which there is room.

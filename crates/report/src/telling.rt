@@ -25,7 +25,10 @@ fn of_sheet(file: Result<usize, NoSheet>, check: Result<Counts, Refusal>) -> Opt
     match file {
         Err(NoSheet::Missing) => Some(Notice::SheetMissing),
         Err(NoSheet::Unreadable) => Some(Notice::SheetUnreadable),
-        Ok(_) => check.err().map(Notice::SheetRefused),
+        Ok(_) => match check {
+            Err(r) => Some(Notice::SheetRefused(r.stop.number(), r.place)),
+            Ok(_) => None,
+        },
     }
 }
 

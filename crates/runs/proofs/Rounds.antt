@@ -33,6 +33,18 @@ module _ (sheet index notes question : List ℕ) (budget limit : ℕ) where
     pub tallied : (all : List Counted) → Tallied sheet question budget all rows₀ (memory_of store₀ run₀) first
         → Tallied sheet question budget all rows (memory_of store run) m
 
+  -- Before the first move a round's facts hold of the registers, memory and rows that the run begins with.
+  pub first_round : {store links run rows : List ℕ} {m : Registers} → Running sheet index notes question budget store links run m
+      → RowsWithin m.steps rows → Round store run rows m store links run rows m
+  first_round running within =
+      record {
+        running = running;
+        on = λ lent kept whole i. i;
+        counted = λ h. h;
+        rows-within = within;
+        tallied = λ all t. t;
+      }
+
   module _ {store₀ run₀ rows₀ : List ℕ} {first : Registers} {store links run rows : List ℕ} {m : Registers}
       (round : Round store₀ run₀ rows₀ first store links run rows m) where
     abbrev mem : Memory

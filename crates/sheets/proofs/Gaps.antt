@@ -28,4 +28,23 @@ module _ (bytes index : List ℕ) (attributes : ℕ) where
         named none all = λ m b p q. h.lower m b p (omega arith)
         named (some place) (node, here, less, first) = (node, limit, here, lowest-at _ _ first less h.lower)
 
+    module _ (done : n ≡ nodes) where
+      -- Where the limit is an attribute, the first gap is its place at the lowest node that lacks it.
+      pub gap-named : limit < attributes
+          → (node : ℕ) × LowestNode (is_indexed bytes index attributes) n limit node × (some (figure_place node limit) ≡ missing_in bytes index attributes nodes)
+      gap-named less = go gap h.kept (first-kept done)
+        where
+          go : (gap : Option ℕ) → Kept n limit gap → gap ≡ missing_in bytes index attributes nodes
+              → (node : ℕ) × LowestNode (is_indexed bytes index attributes) n limit node × (some (figure_place node limit) ≡ missing_in bytes index attributes nodes)
+          go none all e = absurd (omega arith)
+          go (some place) (node, here, _, first) e = (node, first, rw here at e)
+
+      -- Where the limit is no attribute, there is no gap.
+      pub gap-none : attributes ≤ limit → none ≡ missing_in bytes index attributes nodes
+      gap-none all = go gap h.kept (first-kept done)
+        where
+          go : (gap : Option ℕ) → Kept n limit gap → gap ≡ missing_in bytes index attributes nodes → none ≡ missing_in bytes index attributes nodes
+          go none _ e = e
+          go (some place) (node, here, less, first) e = absurd (omega arith)
+
 pub ruleset gap_laws = (first-kept)

@@ -1,19 +1,88 @@
 -- The pass over the commands, one after the other: what is left of it from here on is all of it, and the index describes the sheet so far.
+use mathlib.Core.Bool.{Bool, true, false, cond, ◌&&◌, and-eq-true_iff}
 use mathlib.Core.List.{List}
 use Rattle.std.specs.Prelude.{None as none, Some as some, Result, Ok, Err}
 use mathlib.Core.Path.{◌≡◌, refl, ap, ◌∙◌}
 use Prim.Native.Nat.{ℕ, zero, suc, ◌+◌, ◌-◌, ◌≤◌, ◌<◌}
 use native.Mathlib.Omega.{arith}
-use lib.ListN.{length}
-use Rattle.saiga.specs.Sheet.{Sheet, empty_sheet, node_count, attribute_count, Read as SheetRead}
+use lib.Dec.{leb, ltb, eqb}
+use lib.ListN.{length, take, drop, get_or}
+use borrow.Author.Tests.{leb-true}
+use Rattle.saiga.specs.declared.Base.{Base}
+use Rattle.saiga.specs.Values.{of_bytes}
+use Rattle.saiga.specs.Expressions.{Whole, no_expression, expression}
+use Rattle.saiga.specs.Sheet.{Sheet, empty_sheet, node_count, attribute_count, Read as SheetRead, Command, attribute_command, node_command, figure_command, rule_command, forward_command, end_command, no_command, command_of}
 use Rattle.saiga.specs.declared.stops.Refusal.{Refusal}
 use Rattle.values.specs.Cells.{emptied}
 use Rattle.sheets.specs.declared.Counts.{Counts}
 use Rattle.sheets.specs.declared.Progress.{Progress}
-use Rattle.sheets.specs.Scan.{pieces_at, piece_places, index_size, Scanned, goes_on, scan_command, missing_in, Scan, scanned, scan_from, start, Reading, ReadAs, Declared, scan_of}
+use Rattle.sheets.specs.Scan.{pieces_at, piece_places, index_size, part_number, Scanned, stops◌at_offset◌, ends, goes_on, demand, scan_attribute, scan_node, scan_figure, demand_piece, scan_piece, scan_rule, scan_forward, scan_end, scan_at, scan_command, missing_in, Scan, scanned, scan_from, start, Reading, ReadAs, Declared, scan_of}
 use Rattle.sheets.proofs.Indexed.{kind-by-index}
 use Rattle.sheets.proofs.Told.{told-stops, told-ends, told-goes-on}
 use Rattle.sheets.proofs.Scan.{progress, SoFar, Agrees, stop, end, next, next-agrees, start-so-far}
+
+-- ---- How a command moves the pass
+
+-- A stop's place is the command's or the byte after it; any other command but the end lies within the bytes.
+abbrev pub Moves : List ℕ → Progress → Scanned → Type 0
+Moves bytes p (stops number at_offset offset) = offset ≤ 1
+Moves bytes p ends = Unit {0}
+Moves bytes p (goes_on p' index) = (p.at < p'.at) × (p'.at ≤ length bytes) × (part_number p'.part ≤ 3)
+
+module _ (bytes : List ℕ) (p : Progress) where
+  demand-moves : (b : Bool) (number : ℕ) (t : Scanned) → (b ≡ true → Moves bytes p t) → Moves bytes p (demand b number t)
+  unfolding demand
+  demand-moves true number t h = h refl
+  demand-moves false number t h = omega arith
+
+  demand-piece-moves : (q t : Base) (w : Whole) (r : Scanned) → Moves bytes p r → Moves bytes p (demand_piece bytes p q t w r)
+  unfolding demand_piece
+  demand-piece-moves q t no_expression r h = omega arith
+  demand-piece-moves q t (expression e) r h = demand-moves _ 7 r λ b. h
+
+  piece-moves : (index : List ℕ) (place before : ℕ) (has-parameter : Bool) (q t : Base) → p.at < before → before + 3 + of_bytes (take 2 (drop (before + 1) bytes)) ≤ length bytes
+      → Moves bytes p (scan_piece bytes p index place before has-parameter q t)
+  unfolding scan_piece
+  piece-moves index place before has-parameter q t behind fits = demand-moves _ _ _ λ e. demand-piece-moves q t _ _ (omega arith, fits, omega arith)
+
+  -- The end stops at the byte after it, or not at all.
+  pub end-moves : (b : Bool) → Moves bytes p (cond b ends (stops 2 at_offset 1))
+  end-moves true = tt
+  end-moves false = omega arith
+
+  -- the second of two tests, which is that the command's bytes are there
+  long : (a : Bool) (n : ℕ) → (a && leb n (length bytes)) ≡ true → n ≤ length bytes
+  long a n e = leb-true n (length bytes) ((and-eq-true_iff a (leb n (length bytes))).0 e).1
+
+  command-moves : (index : List ℕ) (c : Command) → Moves bytes p (scan_at bytes p index c)
+  unfolding scan_at scan_attribute scan_node scan_figure scan_rule scan_forward scan_end
+  command-moves index attribute_command =
+      demand-moves _ _ _ λ e. demand-moves _ _ _ λ f. demand-moves _ _ _ λ g. (omega arith, long (leb (part_number p.part) 0) _ e, omega arith)
+  command-moves index node_command =
+      demand-moves _ _ _ λ e. demand-moves _ _ _ λ f. demand-moves _ _ _ λ g. (omega arith, long (leb (part_number p.part) 1) _ e, omega arith)
+  command-moves index figure_command =
+      demand-moves _ _ _ λ e. demand-moves _ _ _ λ f. demand-moves _ _ _ λ g. (omega arith, long (leb (part_number p.part) 2) _ e, omega arith)
+  command-moves index rule_command =
+      let length_at : p.at + 2 + 1 ≡ p.at + 3 = omega arith in
+      let piece-at : p.at + 2 + 3 ≡ p.at + 5 = omega arith in
+      demand-moves _ _ _ λ e. demand-moves _ _ _ λ f.
+      piece-moves index _ _ _ _ _ (omega arith) (rw (length_at, piece-at) (long (leb (part_number p.part) 3 && leb (p.at + 5) (length bytes)) _ e))
+  command-moves index forward_command =
+      let length_at : p.at + 1 + 1 ≡ p.at + 2 = omega arith in
+      let piece-at : p.at + 1 + 3 ≡ p.at + 4 = omega arith in
+      demand-moves _ _ _ λ e. demand-moves _ _ _ λ f.
+      piece-moves index _ _ _ _ _ (omega arith) (rw (length_at, piece-at) (long (leb (part_number p.part) 3 && leb (p.at + 4) (length bytes)) _ e))
+  command-moves index end_command = end-moves (eqb (p.at + 1) (length bytes))
+  command-moves index no_command = omega arith
+
+  -- So it is of each command that is scanned.
+  pub next-moves : (index : List ℕ) → Moves bytes p (scan_command bytes p index)
+  unfolding scan_command
+  next-moves index = go (ltb p.at (length bytes))
+    where
+      go : (b : Bool) → Moves bytes p (cond b (scan_at bytes p index (command_of (get_or bytes p.at 0))) (stops 2 at_offset 0))
+      go true = command-moves index (command_of (get_or bytes p.at 0))
+      go false = omega arith
 
 -- ---- Between two commands
 

@@ -1,17 +1,19 @@
 -- The numbers of the C calls: a refusal's number is never 0, and what the checks of a sheet and of a store tell.
-use mathlib.Core.List.{List, [], ◌∷◌}
+use mathlib.Core.Bool.{Bool, true, false, cond, ◌&&◌}
+use mathlib.Core.List.{List, [], ◌∷◌, ◌++◌}
 use mathlib.Core.Path.{◌≡◌, refl, sym, ap, ◌∙◌}
-use Prim.Native.Nat.{ℕ, ◌/◌, ◌<◌, min}
+use Prim.Native.Nat.{ℕ, zero, suc, ◌/◌, ◌%◌, ◌<◌, min}
 use native.Mathlib.Omega.{arith}
-use lib.ListN.{length, get_or, length-replicate}
+use lib.Dec.{leb, eqb}
+use lib.ListN.{length, take, drop, get_or, length-replicate}
 use Rattle.std.specs.Prelude.{Result, Ok, Err}
-use Rattle.saiga.specs.Limits.{sheet_limit}
+use Rattle.saiga.specs.Limits.{sheet_limit, entry_width, store_limit}
 use Rattle.saiga.specs.declared.stops.Stop.{Stop}
 use Rattle.saiga.specs.declared.stops.Refusal.{Refusal}
-use Rattle.saiga.specs.Sheet.{Checked, refused◌at_place◌, accepted, check_sheet}
+use Rattle.saiga.specs.Sheet.{Sheet, Checked, refused◌at_place◌, accepted, check_sheet}
 use Rattle.saiga.specs.Stops.{stop_number, checked_of, says}
 use Rattle.saiga.specs.Caching.{Entry}
-use Rattle.saiga.specs.Store.{check_store}
+use Rattle.saiga.specs.Store.{is_entry, entry_of, read_entries, capacity, check_store}
 use Rattle.sheets.specs.declared.Counts.{Counts}
 use Rattle.sheets.specs.Notes.{ChecksNotes}
 use Rattle.sheets.specs.Scan.{attributes_place, nodes_place, Checks}
@@ -60,6 +62,26 @@ module _ {sheet index : List ℕ} {r : Result Counts Refusal} (checked : Checks 
       let p = sheet-prepared checked is in (p.prepared, sheet-noted checked size noted p.prepared.of p.prepared.accepts)
 
 -- ---- The store
+
+-- An entry is refused with 10.
+entries-refused : (s : Sheet) (k : ℕ) (before : List Entry) (l : List ℕ) (number place : ℕ) → read_entries s k before l ≡ refused number at_place place → number ≡ 10
+unfolding read_entries
+entries-refused s zero before l number place e = absurd (let z : ◌≡◌ {A = ℕ} 0 1 = cc in omega arith)
+entries-refused s (suc k) before l number place e = go (is_entry s before (take entry_width l)) (entries-refused s k (before ++ entry_of s (take entry_width l) ∷ []) (drop entry_width l) number place) e
+  where
+    go : (b : Bool) → (read_entries s k (before ++ entry_of s (take entry_width l) ∷ []) (drop entry_width l) ≡ refused number at_place place → number ≡ 10)
+        → ◌≡◌ {A = Checked (List Entry)} (elim b [ true ↦ read_entries s k (before ++ entry_of s (take entry_width l) ∷ []) (drop entry_width l) | false ↦ refused 10 at_place (length before) ]) (refused number at_place place) → number ≡ 10
+    go true f e = f e
+    go false f e = cc
+
+-- A store is never refused with 0.
+pub store-number : (s : Sheet) (store : List ℕ) (kept number place : ℕ) → check_store s store kept ≡ refused number at_place place → 0 < number
+unfolding check_store
+store-number s store kept number place = go (eqb (length store % entry_width) 0 && leb (length store) store_limit && leb kept (capacity store)) (entries-refused s kept [] store number place)
+  where
+    go : (b : Bool) → (read_entries s kept [] store ≡ refused number at_place place → number ≡ 10) → cond b (read_entries s kept [] store) (refused 9 at_place 0) ≡ refused number at_place place → 0 < number
+    go true f e = omega (arith, f e)
+    go false f e = let nine : number ≡ 9 = cc in omega arith
 
 -- The check of a store, put to so many of the attributes as the bytes have.
 module _ {sheet : List ℕ} (index : List ℕ) {attributes stand nodes : ℕ} {store : List ℕ} {kept : ℕ} {links : List ℕ} {r : Result (Unit {0}) Refusal}

@@ -1,1 +1,2 @@
 pub mod CallNumbers
+pub mod Signs

@@ -98,12 +98,12 @@ fn six(answer: Answer) -> [i64; 6]
             signed(kept),
         ],
         Answer::Refused {
-            stop,
+            number,
             place,
             steps,
             kept,
         } => [
-            i64::from(stop.number()),
+            i64::from(number),
             signed(place),
             0,
             0,

@@ -10,6 +10,7 @@ use mir.Val.{Fits}
 use Rattle.saiga.specs.Values.{of_bytes}
 use Rattle.saiga.specs.Store.{fields_of}
 use Rattle.values.proofs.Bytes.{bytes_below}
+use Rattle.stores.specs.declared.Key.{Key}
 use Rattle.stores.specs.Walks.{Keyed}
 use Rattle.stores.specs.Keys.{fields_at, key_in, key_at}
 
@@ -57,6 +58,10 @@ module _ (store : List ℕ) (small : (i : ℕ) → Fits w8 (get_or store i 0)) w
         attribute = rw (byte_at store j 2 (omega arith)) (small (12 * j + 2)).fits;
         word = rw (part_at store j 4 4 (omega arith)) (part-below (12 * j + 4) 4);
       }
+
+-- A key that is equal to a key of bytes is one.
+pub keyed-as : {p q : Key} → q ≡ p → Keyed p → Keyed q
+keyed-as e keyed = rw e keyed
 
 -- The first k entries stand in the first 12 * k bytes.
 key-taken : (store : List ℕ) (k j : ℕ) → j < k → key_at (take (12 * k) store) j ≡ key_at store j

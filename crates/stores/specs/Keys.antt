@@ -15,6 +15,8 @@ use Rattle.saiga.specs.Caching.{Entry}
 use Rattle.saiga.specs.declared.Fields.{Fields}
 use Rattle.saiga.specs.Store.{field_bytes, fields_of, entry_of, is_entry, read_entries, capacity, check_store}
 use Rattle.stores.specs.declared.Key.{Key}
+use Rattle.stores.specs.declared.WideKey.{WideKey}
+use Rattle.stores.specs.declared.WideFields.{WideFields}
 use Rattle.stores.specs.Walks.{first_cell, Keyed, Free, Trie}
 use Rattle.stores.specs.declared.Seen.{Seen}
 use Rattle.stores.specs.declared.Seen.TheVariants.{Empty, Has, Other}
@@ -80,6 +82,10 @@ kept_at B store (some j) = some (of_word B (value_word store j))
 -- the numbers of the entry that keeps a value for a key
 unfoldable pub fields_for : Key → Value → Fields
 fields_for q v = record { node = q.node; attribute = q.attribute; code = type_code v; parameter = q.word; value = to_word v }
+
+-- and for an occurrence in numbers of any size
+unfoldable pub wide_fields_for : WideKey → Value → WideFields
+wide_fields_for q v = record { node = q.node; attribute = q.attribute; code = type_code v; parameter = q.word; value = to_word v }
 
 -- a store with these bytes for entry k
 unfoldable pub put_at : List ℕ → ℕ → List ℕ → List ℕ

@@ -9,7 +9,7 @@ ghost use Rattle.saiga.specs.Limits.{entry_width, entry_limit};
 ghost use Rattle.saiga.specs.Sheet.{Sheet, node_count};
 ghost use Rattle.saiga.specs.Store.{field_bytes, is_entry};
 ghost use Rattle.stores.specs.Walks.{bucket_count, fan_out, first_cell, cell_of, bucket_of, trail_of, Free, Without, planted};
-ghost use Rattle.stores.specs.Keys.{links_size, same_key, fields_at, key_in, key_at, find_key, seen_in, other_in, FreeIn, value_word, fields_for, put_at, Linked, is_shaped, EntryTested, StoreChecked, EntryPut};
+ghost use Rattle.stores.specs.Keys.{links_size, same_key, fields_at, key_in, key_at, find_key, seen_in, other_in, FreeIn, value_word, fields_for, wide_fields_for, put_at, Linked, is_shaped, EntryTested, StoreChecked, EntryPut};
 ghost use Rattle.stores.specs.Search.{Cells, Searched};
 
 use saiga::limits::{ENTRY_LIMIT, ENTRY_WIDTH, STORE_LIMIT};
@@ -113,6 +113,38 @@ impl Key {
             parameter: self.word,
             value: values::word_of(value),
         }
+    }
+}
+
+// An occurrence in numbers that needn't have the widths of an entry's.
+#[derive(Clone, Copy)]
+pub struct WideKey {
+    pub node: u32,
+    pub attribute: u32,
+    pub word: u32,
+}
+
+// The numbers of the entry that would keep a value for such an occurrence.
+#[derive(Clone, Copy)]
+pub struct WideFields {
+    pub node: u32,
+    pub attribute: u32,
+    pub code: u8,
+    pub parameter: u32,
+    pub value: u32,
+}
+
+// What `Key::fields` is for a key. A caller who has not held an occurrence to the widths of an entry gets the numbers that its entry would have.
+#[tactic(auto, unfolding(crate::specs::Keys::wide_fields_for))]
+pub fn fields_for(key: WideKey, value: Value) -> WideFields
+    ensures { result ≡ wide_fields_for key value }
+{
+    WideFields {
+        node: key.node,
+        attribute: key.attribute,
+        code: values::type_code(value),
+        parameter: key.word,
+        value: values::word_of(value),
     }
 }
 

@@ -24,5 +24,5 @@ pub returns-in-Stops : goal.returns-in-Stops
 returns-in-Stops c =
     let ensured = c.run-end.ensures in
     let (answer, (tally, (store, linked))) =
-    stopped c.requires.askable c.begin-first.ensures _ _ ensured.ran ensured.linked _ c.requires.tally_empty ensured.tallies_to c.in-Stops.is in
+    stopped c.requires.askable c.begin-first.ensures _ _ ensured.ran ensured.linked _ c.requires.tally_empty ensured.tallies_to c.in-Stops.is c.number.ensures in
     record { answer = answer; tally_after = tally; store_after = store; linked = linked }

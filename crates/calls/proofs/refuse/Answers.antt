@@ -2,7 +2,7 @@
 use Rattle.std.proofs.Common.{refl}
 use Rattle.saiga.specs.Ask.{refusal}
 use Rattle.calls.specs.Answers.{answer_of}
-use Rattle.calls.proofs.Answer.refused.Goals as goal
+use Rattle.calls.proofs.refuse.Goals as goal
 
 pub returns : goal.returns
 unfolding answer_of refusal
